@@ -1,0 +1,67 @@
+-- `descriptors::types_length` meets its contract. The loop's invariant: the run from `i` on ends where the whole run does. Assumes nothing.
+use Prim.Native.Nat.{_-_}
+use native.Mathlib.Omega.{arith}
+use lib.ListN.{length}
+use borrow.Author.Needs.{needs}
+use Rattle.descriptors.specs.Descriptors.{typeLength}
+use Rattle.descriptors.proofs.Types.{type-in}
+use Rattle.text.proofs.Runs.{part, Runs, start, fits, turn, stop, done}
+use Rattle.descriptors.proofs.types_length.Statement.{statement}
+use Rattle.descriptors.proofs.types_length.Tie as tie
+
+abbrev Inv-loop : tie.InvT-loop
+Inv-loop s i₀ i = Runs typeLength s i
+
+abbrev μ-loop : tie.MeasureT-loop
+μ-loop s i₀ i = length s - i
+
+loop-holds : tie.Need-loop-holds Inv-loop μ-loop
+loop-holds c = start typeLength type-in _
+
+sub-type-length : tie.Need-sub-type-length Inv-loop μ-loop
+sub-type-length c = search needs
+
+part-type-length-start : tie.Need-part-type-length-start Inv-loop μ-loop
+part-type-length-start c = search needs
+
+part-type-length-end : tie.Need-part-type-length-end Inv-loop μ-loop
+part-type-length-end c = search needs
+
+type-length-requires : tie.Need-type-length-requires Inv-loop μ-loop
+type-length-requires c κs = search needs
+
+returns : tie.Need-returns Inv-loop μ-loop
+returns c = stop typeLength type-in _ _ _ (c .before .before .before .before .loop .inv) (rw part at (c .before .type-length .ensures)) (c .if1 .taken)
+
+add-i : tie.Need-add-i Inv-loop μ-loop
+add-i c =
+    let h = fits typeLength type-in (c .before .before .before .before .before .before .args .s .now) (c .before .before .before .before .loop .i) (c .before .type-length .result) (rw part at (c .before .type-length .ensures)) in
+    omega arith
+
+loop-less : tie.Need-loop-less Inv-loop μ-loop
+loop-less c =
+    let h = fits typeLength type-in (c .before .before .before .before .before .before .args .s .now) (c .before .before .before .before .loop .i) (c .before .type-length .result) (rw part at (c .before .type-length .ensures)) in
+    omega arith
+
+loop-again : tie.Need-loop-again Inv-loop μ-loop
+loop-again c = turn typeLength type-in _ _ _ (c .before .before .before .before .loop .inv) (rw part at (c .before .type-length .ensures))
+
+returns-2 : tie.Need-returns-2 Inv-loop μ-loop
+returns-2 c = done typeLength type-in _ _ (c .before .loop .inv) (c .loop-test .left)
+
+pub types-length-spec : {M : Type 1} → statement M
+types-length-spec =
+    tie.close
+    (tie.spec
+    Inv-loop
+    μ-loop
+    loop-holds
+    sub-type-length
+    part-type-length-start
+    part-type-length-end
+    type-length-requires
+    returns
+    add-i
+    loop-less
+    loop-again
+    returns-2)

@@ -1,0 +1,4 @@
+pub mod Answers
+pub mod Leaves
+pub mod Once
+pub mod Tables

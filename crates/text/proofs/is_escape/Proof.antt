@@ -1,0 +1,36 @@
+-- `text::is_escape` meets its contract. A pair is its two bytes. Assumes nothing.
+use mathlib.Core.Path.{sym}
+use borrow.Author.Tests.{eq-eqb, ne-eqb}
+use Rattle.text.proofs.Names.{escape-short, escape-long}
+use borrow.Author.Needs.{needs}
+use Rattle.text.proofs.is_escape.Statement.{statement}
+use Rattle.text.proofs.is_escape.Tie as tie
+
+returns : tie.Need-returns
+returns c = sym (escape-short _ (c .if1 .taken))
+
+shared-slice-read-if2 : tie.Need-shared-slice-read-if2
+shared-slice-read-if2 c = search needs
+
+shared-slice-read-is-escaped : tie.Need-shared-slice-read-is-escaped
+shared-slice-read-is-escaped c = search needs
+
+is-escaped-requires : tie.Need-is-escaped-requires
+is-escaped-requires c κs = search needs
+
+returns-2 : tie.Need-returns-2
+returns-2 c = let h = c .before .before .before .before .if1 .left in simp (escape-long, eq-eqb _ _ (c .before .before .if2 .taken), ← c .is-escaped .ensures)
+
+returns-3 : tie.Need-returns-3
+returns-3 c = let h = c .before .before .if1 .left in simp (escape-long, ne-eqb _ _ (c .if2 .left))
+
+pub is-escape-spec : {M : Type 1} → statement M
+is-escape-spec =
+    tie.close
+    (tie.spec
+    returns
+    shared-slice-read-if2
+    shared-slice-read-is-escaped
+    is-escaped-requires
+    returns-2
+    returns-3)
