@@ -1,0 +1,4 @@
+pub mod Edge
+pub mod Once
+pub mod Room
+pub mod Rules

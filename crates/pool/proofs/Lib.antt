@@ -1,0 +1,6 @@
+pub mod Entries
+pub mod Filling
+pub mod Slots
+pub mod Room
+pub mod Edge
+pub mod Once

@@ -1,0 +1,102 @@
+-- `pool::row_of` meets its contract. Assumes nothing.
+use borrow.Author.Tests.{ne-eqb}
+use Rattle.pool.specs.Rows.{rowOf}
+use Rattle.pool.proofs.row_of.Statement.{statement}
+use Rattle.pool.proofs.row_of.Tie as tie
+use Rattle.pool.proofs.row_of.Reads as reads
+use Rattle.pool.proofs.row_of.Lts as lts
+
+returns : tie.Need-returns
+unfolding rowOf
+returns c = simp (c .match .keys1)
+
+returns-2 : tie.Need-returns-2
+unfolding rowOf
+returns-2 c = simp (c .match .keys2)
+
+returns-3 : tie.Need-returns-3
+unfolding rowOf
+returns-3 c = simp (c .match .keys3)
+
+returns-4 : tie.Need-returns-4
+unfolding rowOf
+returns-4 c = simp (c .match .keys4)
+
+returns-5 : tie.Need-returns-5
+unfolding rowOf
+returns-5 c = simp (c .match .keys5)
+
+returns-6 : tie.Need-returns-6
+unfolding rowOf
+returns-6 c = simp (c .match .keys6)
+
+returns-7 : tie.Need-returns-7
+unfolding rowOf
+returns-7 c = simp (c .match .keys7)
+
+returns-8 : tie.Need-returns-8
+unfolding rowOf
+returns-8 c = simp (c .match .keys8)
+
+returns-9 : tie.Need-returns-9
+unfolding rowOf
+returns-9 c = simp (c .match .keys9)
+
+returns-10 : tie.Need-returns-10
+unfolding rowOf
+returns-10 c = simp (c .match .keys10)
+
+returns-11 : tie.Need-returns-11
+unfolding rowOf
+returns-11 c = simp (c .match .keys11)
+
+returns-12 : tie.Need-returns-12
+unfolding rowOf
+returns-12 c = simp (c .match .keys12)
+
+returns-13 : tie.Need-returns-13
+unfolding rowOf
+returns-13 c = simp (c .match .keys13)
+
+returns-14 : tie.Need-returns-14
+unfolding rowOf
+returns-14 c = simp (c .match .keys14)
+
+returns-15 : tie.Need-returns-15
+unfolding rowOf
+returns-15 c = simp (c .match .keys15)
+
+returns-16 : tie.Need-returns-16
+unfolding rowOf
+returns-16 c = simp (c .match .keys16)
+
+returns-17 : tie.Need-returns-17
+unfolding rowOf
+returns-17 c = simp (c .match .keys17)
+
+returns-18 : tie.Need-returns-18
+unfolding rowOf
+returns-18 c = simp (ne-eqb _ _ (c .match .rest .0 .0 .0 .0 .0 .0 .0 .0 .0 .0 .0 .0 .0 .0 .0 .0 .1), ne-eqb _ _ (c .match .rest .0 .0 .0 .0 .0 .0 .0 .0 .0 .0 .0 .0 .0 .0 .0 .1), ne-eqb _ _ (c .match .rest .0 .0 .0 .0 .0 .0 .0 .0 .0 .0 .0 .0 .0 .0 .1), ne-eqb _ _ (c .match .rest .0 .0 .0 .0 .0 .0 .0 .0 .0 .0 .0 .0 .0 .1), ne-eqb _ _ (c .match .rest .0 .0 .0 .0 .0 .0 .0 .0 .0 .0 .0 .0 .1), ne-eqb _ _ (c .match .rest .0 .0 .0 .0 .0 .0 .0 .0 .0 .0 .0 .1), ne-eqb _ _ (c .match .rest .0 .0 .0 .0 .0 .0 .0 .0 .0 .0 .1), ne-eqb _ _ (c .match .rest .0 .0 .0 .0 .0 .0 .0 .0 .0 .1), ne-eqb _ _ (c .match .rest .0 .0 .0 .0 .0 .0 .0 .0 .1), ne-eqb _ _ (c .match .rest .0 .0 .0 .0 .0 .0 .0 .1), ne-eqb _ _ (c .match .rest .0 .0 .0 .0 .0 .0 .1), ne-eqb _ _ (c .match .rest .0 .0 .0 .0 .0 .1), ne-eqb _ _ (c .match .rest .0 .0 .0 .0 .1), ne-eqb _ _ (c .match .rest .0 .0 .0 .1), ne-eqb _ _ (c .match .rest .0 .0 .1), ne-eqb _ _ (c .match .rest .0 .1), ne-eqb _ _ (c .match .rest .1))
+
+pub row-of-spec : {M : Type 1} → statement M
+row-of-spec =
+    tie.close
+    (tie.spec
+    returns
+    returns-2
+    returns-3
+    returns-4
+    returns-5
+    returns-6
+    returns-7
+    returns-8
+    returns-9
+    returns-10
+    returns-11
+    returns-12
+    returns-13
+    returns-14
+    returns-15
+    returns-16
+    returns-17
+    returns-18)
