@@ -1,0 +1,6 @@
+pub mod Handed
+pub mod Walking
+pub mod Judging
+pub mod Own
+pub mod Answered
+pub mod Once

@@ -1,0 +1,4 @@
+pub mod Laws
+pub mod Whole
+pub mod Examples
+pub mod Once
