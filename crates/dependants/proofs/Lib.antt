@@ -1,0 +1,5 @@
+pub mod Steps
+pub mod Stored
+pub mod Edge
+pub mod Demand
+pub mod Once

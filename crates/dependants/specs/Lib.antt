@@ -1,0 +1,2 @@
+pub mod Dependants
+pub mod Readings

@@ -1,0 +1,5 @@
+pub mod Ranks
+pub mod Chains
+pub mod Sieve
+pub mod Listed
+pub mod Zero
