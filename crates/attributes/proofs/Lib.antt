@@ -1,0 +1,5 @@
+pub mod Columns
+pub mod Frames
+pub mod Tiled
+pub mod Once
+mod Examples

@@ -1,0 +1,4 @@
+pub mod Records
+pub mod Attributes
+pub mod Readings
+pub mod Sound

@@ -1,0 +1,37 @@
+-- What an accepted read of a body says, and a loop of steps through it. Assumes nothing.
+use mathlib.Core.Path.{_≡_, refl, ap, sym, _∙_}
+use mathlib.Core.Bool.{Bool, true, false}
+use Prim.Native.Nat.{ℕ, suc, _+_, _-_, _≤_, _<_}
+use native.Mathlib.Omega.{arith}
+use lib.Dec.{leb}
+use borrow.Author.Tests.{leb-true}
+use Rattle.reads.specs.Answer.{Answer, accept, refuse, fine, _>>=_, require}
+use Rattle.reads.proofs.Answers.{never, held}
+use Rattle.pool.specs.Pool.{Pool}
+use Rattle.bootstrap.specs.Bootstrap.{bodyU2, steps}
+
+-- a test that was required last held
+pub required : (t : Bool) (nr place : ℕ) → fine ≡ require t nr place → t ≡ true
+required true nr place e = refl
+required false nr place e = absurd (never e)
+
+pub body-in : (p : Pool) (at end i v : ℕ) → accept v ≡ bodyU2 p at end i → i + 2 ≤ end
+unfolding bodyU2
+body-in p at end i v e = leb-true (i + 2) end (held (leb (i + 2) end) 18 at _ v e .0)
+
+module _ (step : ℕ → Answer ℕ) (left i : ℕ) where
+  go : 0 < left → steps step left i ≡ (step i >>= λ next. steps step (left - 1) next)
+  unfolding steps
+  go h =
+      let k : left ≡ suc (left - 1) = omega arith in
+      ap (λ (j : ℕ). steps step j i) k
+
+  pub steps-go : (next : ℕ) → 0 < left → accept next ≡ step i → steps step (left - 1) next ≡ steps step left i
+  steps-go next h e = sym (go h ∙ rw (← e))
+
+  pub steps-stop : (nr place : ℕ) → 0 < left → refuse nr place ≡ step i → refuse nr place ≡ steps step left i
+  steps-stop nr place h e = sym (go h ∙ rw (← e))
+
+  pub steps-done : left ≡ 0 → accept i ≡ steps step left i
+  unfolding steps
+  steps-done e = rw e

@@ -1,0 +1,5 @@
+pub mod Bodies
+pub mod Gathered
+pub mod Once
+mod Examples
+pub mod Named

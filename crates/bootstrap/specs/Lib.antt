@@ -1,0 +1,2 @@
+pub mod Bootstrap
+pub mod Indices
