@@ -1,0 +1,3 @@
+pub mod Placed
+pub mod Listing
+pub mod Once

@@ -1,0 +1,23 @@
+-- `header::check_super` meets its contract. Assumes nothing.
+use borrow.Author.Needs.{needs}
+use Rattle.header.specs.Header.{superAt}
+use borrow.Author.Tests.{eq-eqb, ne-eqb}
+use Rattle.header.proofs.check_super.Statement.{statement}
+use Rattle.header.proofs.check_super.Tie as tie
+use Rattle.header.proofs.check_super.Reads as reads
+use Rattle.header.proofs.check_super.Lts as lts
+use Rattle.header.proofs.check_class.Reads as check-class-reads
+
+returns : tie.Need-returns
+unfolding superAt
+returns c = simp (eq-eqb _ _ (c .if1 .taken))
+
+check-class-requires : tie.Need-check-class-requires
+check-class-requires c κs = search needs
+
+returns-2 : tie.Need-returns-2
+unfolding superAt
+returns-2 c = simp (ne-eqb _ _ (c .before .if1 .left), ← c .check-class .ensures)
+
+pub check-super-spec : {M : Type 1} → statement M
+check-super-spec = tie.close (tie.spec returns check-class-requires returns-2)

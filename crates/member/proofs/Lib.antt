@@ -1,0 +1,3 @@
+pub mod Duplicates
+pub mod Inside
+pub mod Once

@@ -1,0 +1,4 @@
+pub mod Whole
+pub mod Turns
+pub mod Both
+pub mod Once

@@ -1,0 +1,3 @@
+pub mod Members
+pub mod Lent
+pub mod Readings
