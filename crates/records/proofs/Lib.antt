@@ -1,0 +1,4 @@
+mod Filled
+pub mod Listed
+pub mod Once
+pub mod Zeros

@@ -1,0 +1,3 @@
+mod Above
+pub mod Once
+mod Thin
