@@ -1,0 +1,4 @@
+pub mod Rooms
+pub mod Bytes
+pub mod Gate
+pub mod Once

@@ -1,0 +1,65 @@
+-- Room for one slot more than the count is room enough: more changes nothing. Assumes nothing.
+use mathlib.Core.Path.{_≡_, refl, ap, sym, _∙_}
+use mathlib.Core.Bool.{Bool, true, false}
+use mathlib.Core.List.{List, [], _∷_, _++_}
+use Prim.Native.Nat.{ℕ, zero, suc, _+_, _-_, _/_, _≤_, _<_, min}
+use native.Mathlib.Omega.{arith}
+use lib.ListN.{length, length-append}
+use lib.Dec.{ltb}
+use borrow.Author.Tests.{lt-ltb, ltb-true, ltb-false}
+use Rattle.reads.specs.Answer.{Answer, accept, refuse, _>>=_}
+use Rattle.reads.specs.Bytes.{num2}
+use Rattle.pool.specs.declared.Header.{Header}
+use Rattle.pool.specs.Pool.{slotAt, entries, allEntries, headerOf, readPool}
+use Rattle.pool.proofs.Slots.{header-is}
+use Rattle.checks.specs.Checks.{pool}
+
+-- the same line first, and then lines that agree on what it gives
+alike : {A B : Type 0} (x : Answer A) (f g : A → Answer B) → ((a : A) → accept a ≡ x → f a ≡ g a) → (x >>= f) ≡ (x >>= g)
+alike (accept a) f g h = h a refl
+alike (refuse nr place) f g h = refl
+
+module _ (s : List ℕ) (major q r : ℕ) where
+  slot-same : (n : ℕ) (owed : Bool) (at : ℕ) → n < q → n < r → slotAt s major q n owed at ≡ slotAt s major r n owed at
+  unfolding slotAt
+  slot-same n owed at a b = simp (lt-ltb n q a, lt-ltb n r b)
+
+  entries-same : (k : ℕ) (owed : Bool) (cells : List ℕ) (at : ℕ) → length cells + k < q → length cells + k < r → entries k owed s major q cells at ≡ entries k owed s major r cells at
+  unfolding entries
+  entries-same zero false cells at a b = refl
+  entries-same zero true cells at a b = simp (lt-ltb (length cells) q (omega arith), lt-ltb (length cells) r (omega arith))
+  entries-same (suc k) owed cells at a b =
+      rw (slot-same (length cells) owed at (omega arith) (omega arith))
+      (alike (slotAt s major r (length cells) owed at) _ _ (λ e _.
+      let m : length (cells ++ e .cell ∷ []) ≡ length cells + 1 = simp length-append in
+      entries-same k (e .wide) (cells ++ e .cell ∷ []) (e .next) (omega arith) (omega arith)))
+
+  all-same : (count : ℕ) → count < q → count < r → allEntries s major count q ≡ allEntries s major count r
+  unfolding allEntries entries
+  all-same zero a b = simp (lt-ltb 0 q (omega arith), lt-ltb 0 r (omega arith))
+  all-same (suc k) a b = simp (lt-ltb 0 q (omega arith), lt-ltb 0 r (omega arith)) (entries-same (suc k - 1) false (0 ∷ []) 10 (omega arith) (omega arith))
+
+module _ (s : List ℕ) where
+  module _ (q r : ℕ) where
+    pub read-same : num2 s 8 < q → num2 s 8 < r → readPool s q ≡ readPool s r
+    unfolding readPool
+    read-same a b = alike (headerOf s) _ _ (λ h e.
+        let k = ap (λ (x : Header). x .count) (header-is s h e) in
+        rw (all-same s (h .major) q r (h .count) (omega arith) (omega arith)) refl)
+
+    pub pool-same : num2 s 8 < q → num2 s 8 < r → pool s q ≡ pool s r
+    unfolding pool
+    pool-same a b = rw (read-same a b) refl
+
+  -- as much room as there is, or as the file can need
+  pub enough : (room n : ℕ) → n ≡ min room (num2 s 8 + 1) → pool s n ≡ pool s room
+  enough room n e = by-room (ltb (num2 s 8) room) refl
+    where
+      by-room : (t : Bool) → ltb (num2 s 8) room ≡ t → pool s n ≡ pool s room
+      by-room true h =
+          let g = ltb-true (num2 s 8) room h in
+          pool-same n room (omega arith) (omega arith)
+      by-room false h =
+          let g = ltb-false (num2 s 8) room h in
+          let k : n ≡ room = omega arith in
+          rw k refl

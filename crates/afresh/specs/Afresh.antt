@@ -1,0 +1,11 @@
+-- A handed table held against the entries, which are read afresh with room for so many cells. Assumes nothing.
+use Prim.Native.Nat.{ℕ}
+use mathlib.Core.List.{List}
+use Rattle.reads.specs.Answer.{Check, accept, refuse, _>>=_}
+use Rattle.pool.specs.Pool.{readPool}
+use Rattle.handed.specs.Handed.{agree}
+
+unfoldable pub afresh : List ℕ → List ℕ → ℕ → Check
+afresh s table room = do
+  w ← readPool s room
+  agree (w .pool .cells) table

@@ -1,0 +1,4 @@
+pub mod Few
+pub mod Thin
+pub mod Own
+pub mod Once
