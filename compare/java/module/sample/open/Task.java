@@ -1,0 +1,5 @@
+package sample.open;
+
+public class Task implements Runnable {
+    public void run() { }
+}

@@ -1,0 +1,27 @@
+//! The C interface of the proved library as Rust declarations: the answers of its calls.
+//! Each begins with the refusal's number (0 where accepted) and its place; the values are 0 after a refusal.
+
+macro_rules! answers {
+    ($($name:ident { $($field:ident: $t:ty),* })*) => {$(
+        #[repr(C)]
+        #[derive(Clone, Copy, Debug, PartialEq, Eq, Default)]
+        pub struct $name { pub refusal: u32, pub place: u64, $(pub $field: $t),* }
+    )*};
+}
+
+answers! {
+    PoolAnswer { slots: u32, minor: u32, major: u32 }
+    LiteralAnswer { tag: u32, bits: u64 }
+    SlotAnswer { slot: u32 }
+    NamedAnswer { name: u32, descriptor: u32 }
+    MemberAnswer { tag: u32, class_name: u32, name: u32, descriptor: u32 }
+    HandleAnswer { kind: u32, tag: u32, class_name: u32, name: u32, descriptor: u32 }
+    DynamicAnswer { index: u32, name: u32, descriptor: u32 }
+    TextAnswer { text: u32 }
+    PartAnswer { start: u64, length: u64 }
+    ListAnswer { count: u32 }
+    ClassAnswer {
+        slots: u32, minor: u32, major: u32, flags: u32, this_class: u32, super_class: u32,
+        interfaces: u32, fields: u32, methods: u32, member_attributes: u32, class_attributes: u32
+    }
+}
