@@ -18,10 +18,13 @@ void pool_free(pool_of *p) {
     *p = (pool_of){0};
 }
 
-uint32_t pool_cell(const pool_of *p, uint32_t slot) {
-    if (p->table_len / 4 <= slot) return 0;
-    const uint8_t *c = p->table + 4 * (size_t)slot;
+uint32_t cell_in(const uint8_t *cells, uint32_t i) {
+    const uint8_t *c = cells + 4 * (size_t)i;
     return (uint32_t)c[0] << 24 | (uint32_t)c[1] << 16 | (uint32_t)c[2] << 8 | c[3];
+}
+
+uint32_t pool_cell(const pool_of *p, uint32_t slot) {
+    return slot < p->table_len / 4 ? cell_in(p->table, slot) : 0;
 }
 
 uint8_t pool_tag(const pool_of *p, const source *s, uint32_t slot) {

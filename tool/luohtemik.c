@@ -55,8 +55,8 @@ static void check_one(const char *path, bool json, tally *t, bool *first) {
     class_read(&c, &s);
     const luo_class_answer *h = &c.head;
     if (json) {
-        fputs(*first ? "\n    {\"path\": " : ",\n    {\"path\": ", stdout);
-        out_json_path(stdout, path);
+        fputs(*first ? "\n    " : ",\n    ", stdout);
+        out_json_open(stdout, path);
         fputs(", ", stdout);
         *first = false;
     } else {
@@ -117,8 +117,7 @@ static int check_command(char **names, size_t count, bool json) {
 /* A refusal of a lookup or of the pool, where the caller asked for a slot. */
 static int say_refused(const source *s, uint32_t slot, uint32_t number, uint64_t place, place_sort sort, bool json) {
     if (json) {
-        fputs("{\"path\": ", stdout);
-        out_json_path(stdout, s->path);
+        out_json_open(stdout, s->path);
         printf(", \"slot\": %u, ", slot);
         refusal_print_json(stdout, number, place, sort);
         fputs("}\n", stdout);
@@ -141,8 +140,7 @@ static int lookup_slot(const source *s, const pool_of *p, uint32_t slot, bool js
         if (a.refusal) return say_refused(s, slot, a.refusal, a.place, lookup_place(a.refusal), json);
     }
     if (json) {
-        fputs("{\"path\": ", stdout);
-        out_json_path(stdout, s->path);
+        out_json_open(stdout, s->path);
         fputs(", \"refusal\": 0, ", stdout);
         entry_print_json(stdout, s, p, slot);
         fputs("}\n", stdout);
@@ -154,11 +152,6 @@ static int lookup_slot(const source *s, const pool_of *p, uint32_t slot, bool js
     return EXIT_ACCEPTED;
 }
 
-static uint32_t list_cell(const uint8_t *list, uint32_t i) {
-    const uint8_t *c = list + 4 * (size_t)i;
-    return (uint32_t)c[0] << 24 | (uint32_t)c[1] << 16 | (uint32_t)c[2] << 8 | c[3];
-}
-
 static int dependants_of(const source *s, const pool_of *p, uint32_t slot, bool json) {
     size_t room = 4 * (size_t)p->pool.slots;
     uint8_t *list = must_allocate(room, 1);
@@ -168,12 +161,11 @@ static int dependants_of(const source *s, const pool_of *p, uint32_t slot, bool 
         return say_refused(s, slot, a.refusal, a.place, lookup_place(a.refusal), json);
     }
     if (json) {
-        fputs("{\"path\": ", stdout);
-        out_json_path(stdout, s->path);
+        out_json_open(stdout, s->path);
         printf(", \"refusal\": 0, \"slot\": %u, \"dependants\": [", slot);
         for (uint32_t i = 0; i < a.count; i++) {
             fputs(i ? ",\n  {" : "\n  {", stdout);
-            entry_print_json(stdout, s, p, list_cell(list, i));
+            entry_print_json(stdout, s, p, cell_in(list, i));
             fputc('}', stdout);
         }
         fputs("]}\n", stdout);
@@ -182,8 +174,8 @@ static int dependants_of(const source *s, const pool_of *p, uint32_t slot, bool 
         entry_print(stdout, s, p, slot);
         printf("\n%u dependant%s\n", a.count, a.count == 1 ? "" : "s");
         for (uint32_t i = 0; i < a.count; i++) {
-            printf("%6u  ", list_cell(list, i));
-            entry_print(stdout, s, p, list_cell(list, i));
+            printf("%6u  ", cell_in(list, i));
+            entry_print(stdout, s, p, cell_in(list, i));
             fputc('\n', stdout);
         }
     }

@@ -112,6 +112,11 @@ void out_json_path(FILE *f, const char *path) {
     fputc('"', f);
 }
 
+void out_json_open(FILE *f, const char *path) {
+    fputs("{\"path\": ", f);
+    out_json_path(f, path);
+}
+
 void out_hex(FILE *f, const uint8_t *bytes, size_t length) {
     for (size_t i = 0; i < length; i++) fprintf(f, "%02X", bytes[i]);
 }

@@ -213,8 +213,7 @@ int show_class(const source *s, bool json) {
     pool_read(&p, s);
     class_read(&c, s);
     if (json) {
-        fputs("{\"path\": ", stdout);
-        out_json_path(stdout, s->path);
+        out_json_open(stdout, s->path);
         printf(", \"bytes\": %zu,\n", s->size);
     }
     if (c.head.refusal)

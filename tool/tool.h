@@ -55,6 +55,8 @@ typedef struct {
 
 void pool_read(pool_of *p, const source *s);
 void pool_free(pool_of *p);
+/* Cell i of a table or a list that is bytes, four a cell. */
+uint32_t cell_in(const uint8_t *cells, uint32_t i);
 uint32_t pool_cell(const pool_of *p, uint32_t slot);
 /* The tag byte that slot's cell points at, 0 for none: which lookup to ask, no more. */
 uint8_t pool_tag(const pool_of *p, const source *s, uint32_t slot);
@@ -79,6 +81,8 @@ void out_text(FILE *f, const uint8_t *bytes, size_t length, bool raw);
 /* A text as a JSON string. */
 void out_json_text(FILE *f, const uint8_t *bytes, size_t length);
 void out_json_path(FILE *f, const char *path);
+/* '{"path": ..': how each JSON object on a file begins. */
+void out_json_open(FILE *f, const char *path);
 void out_hex(FILE *f, const uint8_t *bytes, size_t length);
 /* A float or a double by its bits, in the fewest digits that give the same bits back. */
 void out_float(FILE *f, uint32_t bits);
