@@ -1,31 +1,19 @@
 -- What an attribute that was framed says of the file, and the loop over attributes. Assumes nothing.
-use mathlib.Core.Path.{_≡_, refl, ap, sym, _∙_}
+use mathlib.Core.Path.{_≡_, refl, ap, _∙_}
 use mathlib.Core.Bool.{Bool}
 use mathlib.Core.List.{List}
 use Prim.Native.Nat.{ℕ, _+_, _-_, _≤_, _<_}
-use native.Mathlib.Omega.{arith}
 use lib.ListN.{length, set, replicate, length-set}
 use lib.Dec.{ltb}
 use borrow.Author.Tests.{le-leb, lt-leb, ltb-true}
-use Rattle.reads.specs.Answer.{Answer, accept, refuse, _>>=_, mapped, require, Check, fine}
-use Rattle.reads.specs.Bytes.{u2, u4, num2, num4}
+use Rattle.reads.specs.Answer.{Answer, accept, refuse, mapped}
 use Rattle.reads.proofs.Answers.{first, held}
-use Rattle.reads.proofs.Leaves.{inside}
+pub use Rattle.reads.proofs.Leaves.{u2-in}
 use Rattle.pool.specs.Pool.{Pool}
 use Rattle.attributes.specs.declared.Attribute.{Attribute}
-use Rattle.attributes.specs.Records.{Many, records, column, stored}
+use Rattle.attributes.specs.Records.{column, stored}
 use Rattle.attributes.specs.Attributes.{attributeAt, ruled, recordAt, bodyEnd, framed, attributes}
 use Rattle.attributes.proofs.Columns.{turn-end, turn-column, stop, done, column-stop, column-done}
-
--- ---- reads that were accepted
-
-pub u2-in : (s : List ℕ) (at v : ℕ) → accept v ≡ u2 s at → at + 2 ≤ length s
-unfolding u2
-u2-in s at v e = inside s at 2 _ v e .0
-
-pub u4-in : (s : List ℕ) (at v : ℕ) → accept v ≡ u4 s at → at + 4 ≤ length s
-unfolding u4
-u4-in s at v e = inside s at 4 _ v e .0
 
 -- it has its record
 pub record-in : (own : Bool) (p : Pool) (room n at : ℕ) (a : Attribute) → accept a ≡ recordAt own p room n at → n < room

@@ -1,19 +1,13 @@
 -- What an accepted read of a body says, and a loop of steps through it. Assumes nothing.
-use mathlib.Core.Path.{_≡_, refl, ap, sym, _∙_}
-use mathlib.Core.Bool.{Bool, true, false}
+use mathlib.Core.Path.{_≡_, ap, sym, _∙_}
 use Prim.Native.Nat.{ℕ, suc, _+_, _-_, _≤_, _<_}
 use native.Mathlib.Omega.{arith}
 use lib.Dec.{leb}
 use borrow.Author.Tests.{leb-true}
-use Rattle.reads.specs.Answer.{Answer, accept, refuse, fine, _>>=_, require}
-use Rattle.reads.proofs.Answers.{never, held}
+use Rattle.reads.specs.Answer.{Answer, accept, refuse, _>>=_}
+use Rattle.reads.proofs.Answers.{held}
 use Rattle.pool.specs.Pool.{Pool}
 use Rattle.bootstrap.specs.Bootstrap.{bodyU2, steps}
-
--- a test that was required last held
-pub required : (t : Bool) (nr place : ℕ) → fine ≡ require t nr place → t ≡ true
-required true nr place e = refl
-required false nr place e = absurd (never e)
 
 pub body-in : (p : Pool) (at end i v : ℕ) → accept v ≡ bodyU2 p at end i → i + 2 ≤ end
 unfolding bodyU2

@@ -1,22 +1,23 @@
 -- What one pass over the class's own attributes finds says of each index what its rule asks. Assumes nothing.
 use mathlib.Core.Path.{_≡_, refl, ap, sym, _∙_}
-use mathlib.Core.Bool.{Bool, true, false, not, _&&_, _||_, cond}
+use mathlib.Core.Bool.{Bool, true, false, not, _&&_, _||_, cond, and-true, and-assoc}
 use mathlib.Core.List.{List, [], _∷_}
-use Prim.Native.Nat.{ℕ, zero, suc, _+_, _*_, _-_, _≤_, _<_, min}
+use Prim.Native.Nat.{ℕ, suc, _+_, _-_, _≤_, _<_, min}
 use native.Mathlib.Omega.{arith}
 use native.Mathlib.Nat.{le-min, min-le-left, min-le-right, sub-zero}
 use native.Mathlib.Numerals.{add-one}
 use lib.ListN.{length, getD, take, drop, drop-of-length-le}
 use lib.Seq.{drop-cons, take-nil}
-use lib.Dec.{ltb, eqb}
+use lib.Dec.{ltb}
 use borrow.Author.Tests.{lt-ltb, le-ltb, ltb-true, ltb-false}
-use Rattle.reads.specs.Answer.{Answer, Check, fine, accept, refuse, _>>=_, require, each}
-use Rattle.reads.specs.Bytes.{num1, num2}
+use Rattle.reads.specs.Answer.{each}
+use Rattle.reads.specs.Bytes.{num2}
+use Rattle.reads.proofs.Leaves.{Bytes, pair-below}
 use Rattle.pool.specs.Pool.{Pool, slots}
-use Rattle.slot.specs.Slots.{cell, tagOf, field}
+use Rattle.slot.specs.Slots.{cell, field}
 use Rattle.bootstrap.specs.declared.Found.{Found}
 use Rattle.bootstrap.specs.Bootstrap.{isBootstrap}
-use Rattle.bootstrap.specs.Indices.{bootstraps, belowEach, dynamic, bootstrapIndex, bootstrapIndices, none, joined, gathered, judged}
+use Rattle.bootstrap.specs.Indices.{bootstraps, belowEach, bootstrapIndex, bootstrapIndices, none, joined, gathered, judged}
 
 -- ---- the loop
 
@@ -96,36 +97,24 @@ module _ (p : Pool) where
   gathered-count (m ∷ names) [] f = omega arith
   gathered-count (m ∷ names) (b ∷ bodies) f = omega (arith, gathered-count names bodies (joined p f m b), joined-count f m b)
 
-  and-true : (t : Bool) → t ≡ (t && true)
-  and-true true = refl
-  and-true false = refl
-
-  and-and : (a b c : Bool) → ((a && b) && c) ≡ (a && (b && c))
-  and-and true b c = refl
-  and-and false b c = refl
-
   pub gathered-least : (i : ℕ) (names bodies : List ℕ) (f : Found) → ltb i (gathered p names bodies f .least) ≡ (ltb i (f .least) && belowEach p i names bodies)
   unfolding gathered belowEach
-  gathered-least i [] bodies f = and-true (ltb i (f .least))
-  gathered-least i (m ∷ names) [] f = and-true (ltb i (f .least))
+  gathered-least i [] bodies f = sym (and-true (ltb i (f .least)))
+  gathered-least i (m ∷ names) [] f = sym (and-true (ltb i (f .least)))
   gathered-least i (m ∷ names) (b ∷ bodies) f =
       gathered-least i names bodies (joined p f m b)
       ∙ ap (λ (t : Bool). t && belowEach p i names bodies) (joined-least i f m b)
-      ∙ and-and (ltb i (f .least)) _ (belowEach p i names bodies)
+      ∙ and-assoc (ltb i (f .least)) _ (belowEach p i names bodies)
 
 -- ---- each slot
 
-field-small : (p : Pool) → ((i : ℕ) → getD (p .file) i 0 < 256) → (n k : ℕ) → field p n k < 65536
-unfolding field
-field-small p small n k = omega (arith, small (cell p n + k), small (cell p n + k + 1))
-
-module _ (p : Pool) (small : (i : ℕ) → getD (p .file) i 0 < 256) (names bodies : List ℕ) where
+module _ (p : Pool) (small : Bytes (p .file)) (names bodies : List ℕ) where
   judged-alike : (n : ℕ) → judged p (gathered p names bodies none) n ≡ bootstrapIndex p names bodies n
-  unfolding judged bootstrapIndex
+  unfolding judged bootstrapIndex field
   judged-alike n =
       let c : gathered p names bodies none .count ≡ bootstraps p names bodies = omega (arith, gathered-count p names bodies none) in
       let l : ltb (field p n 1) (gathered p names bodies none .least) ≡ belowEach p (field p n 1) names bodies =
-      gathered-least p (field p n 1) names bodies none ∙ ap (λ (t : Bool). t && belowEach p (field p n 1) names bodies) (lt-ltb (field p n 1) 65536 (field-small p small n 1)) in
+      gathered-least p (field p n 1) names bodies none ∙ ap (λ (t : Bool). t && belowEach p (field p n 1) names bodies) (lt-ltb (field p n 1) 65536 (pair-below (p .file) small (cell p n + 1))) in
       rw (c, l)
 
   -- all slots, from what was found

@@ -4,8 +4,8 @@ use Prim.Native.Nat.{ℕ, zero, suc, _+_, _-_, _*_, _/_, _%_, _≤_, _<_}
 use native.Mathlib.Nat.{sub-zero, suc-add, div-div-eq-div-mul, div-add-mod', mod-eq-of-lt}
 use native.Mathlib.Numerals.{add-one}
 use native.Mathlib.Omega.{arith}
-use mathlib.Core.List.{List, [], _∷_, _++_, append-nil, append-assoc}
-use lib.ListN.{length, getD, take, drop, replicate, drop-of-length-le, List·getD-eq-default, length-append, length-replicate, replicate-append-replicate}
+use mathlib.Core.List.{List, [], _∷_, _++_, append-assoc}
+use lib.ListN.{length, getD, take, replicate, List·getD-eq-default, length-append, length-replicate, replicate-append-replicate}
 use lib.Seq.{take-suc, take-all}
 use Rattle.reads.specs.Bytes.{num4}
 use Rattle.reads.specs.Answer.{Answer, accept, refuse}
@@ -13,9 +13,6 @@ use Rattle.reads.specs.Tables.{padded, after}
 use Rattle.cells.specs.Cells.{cellsIn, cellBytes, bytesFor, asBytes}
 
 -- ---- cells as bytes
-
-pub filled : (i x : ℕ) (xs : List ℕ) → i ≡ length xs → replicate i x ++ drop i xs ≡ replicate (length xs) x
-filled i x xs e = rw (e, drop-of-length-le xs {i = length xs} (omega arith), append-nil)
 
 pub length-bytes : (xs : List ℕ) → length (bytesFor xs) ≡ 4 * length xs
 unfolding bytesFor

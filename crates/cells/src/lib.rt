@@ -4,12 +4,6 @@ ghost use Prim.Native.Nat.{_+_, _*_, _/_, _≤_, _<_};
 ghost use lib.ListN.{length, replicate, take, getD};
 ghost use Rattle.cells.specs.Cells.{cellsIn, cellBytes, asBytes, written};
 
-fn join4(a: u16, b: u16) -> u32
-    ensures { λ r. ⌜ r ≡ a * 65536 + b ⌝ }
-{
-    (a as u32) * 65536 + (b as u32)
-}
-
 // Cell i of a table that is bytes; 0 past its cells.
 pub fn cell_at(table: &[u8], i: usize) -> u32
     ensures { λ r. ⌜ r ≡ getD (cellsIn (now (table .entry))) i 0 ⌝ }
@@ -18,7 +12,7 @@ pub fn cell_at(table: &[u8], i: usize) -> u32
         return 0;
     }
     let at = i * 4;
-    join4(reads::pair_at(table, at), reads::pair_at(table, at + 2))
+    reads::join4(reads::pair_at(table, at), reads::pair_at(table, at + 2))
 }
 
 // Every byte of a lent table becomes zero.

@@ -9,7 +9,7 @@ use lib.ListN.{length}
 use lib.Dec.{leb, ltb}
 use borrow.Author.Tests.{lt-ltb, le-ltb, ltb-true, leb-true, leb-false, lt-leb, le-leb}
 use Rattle.reads.specs.Answer.{Answer, fine, accept, refuse, _>>=_, require}
-use Rattle.reads.proofs.Answers.{never, first, held}
+use Rattle.reads.proofs.Answers.{never, same, first, held}
 use Rattle.pool.specs.Pool.{Pool, Whole, slots}
 use Rattle.slot.specs.Slots.{cell}
 use Rattle.checks.specs.Checks.{checked}
@@ -21,10 +21,6 @@ use Rattle.reach.proofs.Listed.{dependants-are, dependants-rise, listed-slot, n
 use Rattle.reach.proofs.Zero.{none-of-cell-0, zero-is-slot}
 use Rattle.dependants.specs.Dependants.{dependantsAt, dependants}
 use Rattle.dependants.proofs.Edge.{handed-is}
-
-abbrev inside : List ℕ → Answer (List ℕ) → List ℕ
-inside d (accept xs) = xs
-inside d (refuse nr place) = d
 
 abbrev placeOf : Answer (List ℕ) → ℕ
 placeOf (accept xs) = 0
@@ -96,7 +92,7 @@ unfolding dependantsAt
 right p ok n room xs e =
     let a = held (ltb n (slots p)) 7 n _ xs e in
     let b = held (leb (length (dependantsIn p n)) room) 13 (length (dependantsIn p n)) _ xs (a .1) in
-    let q : xs ≡ dependantsIn p n = ap (inside []) (b .1) in
+    let q = same (b .1) in
     (ltb-true n (slots p) (a .0), rw q (all-right p ok n room (leb-true (length (dependantsIn p n)) room (b .0))))
 
 pub answered : (s table : List ℕ) (n room : ℕ) (xs : List ℕ) → accept xs ≡ dependants s table n room

@@ -6,12 +6,13 @@ use lib.ListN.{length, take, replicate}
 use borrow.Author.Tests.{lt-ltb, le-ltb, le-leb, lt-leb}
 use Rattle.reads.specs.Answer.{Answer, fine, accept, refuse, _>>=_, mapped}
 use Rattle.reads.specs.Tables.{padded, after}
-use Rattle.reads.proofs.Answers.{never, first}
+use Rattle.reads.proofs.Answers.{same, first, whole-of}
+use Rattle.reads.proofs.Leaves.{Bytes}
 use Rattle.reads.proofs.Tables.{padded-none}
 use Rattle.pool.specs.declared.Head.{Head}
 use Rattle.pool.specs.Pool.{Pool, Whole, readPool, slots, seen}
 use Rattle.pool.specs.Readings.{headOf}
-use Rattle.pool.proofs.Room.{Bytes, few-read}
+use Rattle.pool.proofs.Room.{few-read}
 use Rattle.checks.specs.Checks.{checked}
 use Rattle.handed.specs.Handed.{agree, judged, noLimit, handed}
 use Rattle.handed.proofs.Handed.{on-handed, off-handed}
@@ -54,10 +55,6 @@ module _ (s table : List ℕ) where
       → Leaves room t x (dependantsAt n room (seen s (h .major) table (h .slots))) → Leaves room t x (dependants s table n room)
   answers n room t x h e p = rw (on-handed s table (dependantsAt n room) h e) at p
 
-  abbrev wholeIn : Whole → Answer Whole → Whole
-  wholeIn d (accept w) = w
-  wholeIn d (refuse nr place) = d
-
   -- an accepted table is one of the pool that the file gives, and that is checked
   pub handed-is : (w : Whole) → accept w ≡ handed s table → (accept w ≡ readPool s noLimit) × (fine ≡ checked (w .pool))
   unfolding handed judged
@@ -65,15 +62,11 @@ module _ (s table : List ℕ) where
       let r = first (readPool s noLimit) _ w e in
       let j = first (agree (r .0 .pool .cells) table >>= _) _ w (r .2) in
       let a = first (agree (r .0 .pool .cells) table) _ tt (j .1) in
-      let q : r .0 ≡ w = sym (ap (wholeIn w) (j .2)) in
+      let q : r .0 ≡ w = sym (same (j .2)) in
       rw (← q) (r .1, a .2)
-
-  head-few : (h : Head) (y : Answer Whole) → accept h ≡ mapped headOf y → ((w : Whole) → accept w ≡ y → slots (w .pool) ≤ 65536) → h .slots ≤ 65536
-  head-few h (accept w) e f =
-      let q : h ≡ headOf w = cc in
-      rw q (f w refl)
-  head-few h (refuse nr place) e f = absurd (never e)
 
   -- no more slots than a cell of the list can name
   pub few : Bytes s → (h : Head) → accept h ≡ mapped headOf (handed s table) → h .slots ≤ 65536
-  few b h e = head-few h (handed s table) e (λ w k. few-read s b noLimit w (handed-is w k .0))
+  few b h e =
+      let w = whole-of headOf (handed s table) h e in
+      rw (← w .2) (few-read s b noLimit (w .0) (handed-is (w .0) (w .1) .0))

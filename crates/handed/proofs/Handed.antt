@@ -1,14 +1,13 @@
 -- A handed table: how it is judged, and that one that agrees holds the pool that the file gives. Assumes nothing.
 use mathlib.Core.Path.{_≡_, refl, ap, sym, _∙_}
-use mathlib.Core.Bool.{Bool, true, false}
 use mathlib.Core.List.{List, [], _∷_}
-use Prim.Native.Nat.{ℕ, zero, suc, _+_, _≤_, _<_}
+use Prim.Native.Nat.{ℕ, suc, _≤_, _<_}
 use native.Mathlib.Omega.{arith}
 use lib.ListN.{length, getD, take}
 use lib.Dec.{leb, eqb}
 use borrow.Author.Tests.{leb-true, eqb-true, le-leb, lt-leb}
 use Rattle.reads.specs.Answer.{Answer, Check, fine, accept, refuse, _>>=_, require, each, mapped}
-use Rattle.reads.proofs.Answers.{never, first}
+use Rattle.reads.proofs.Answers.{same, first, required, whole-of, refused-of, each-at}
 use Rattle.pool.specs.declared.Head.{Head}
 use Rattle.pool.specs.Pool.{Pool, Whole, readPool, seen}
 use Rattle.pool.specs.Readings.{headOf}
@@ -35,44 +34,20 @@ module _ (cells table : List ℕ) where
 
 -- ---- a table that agrees begins with the cells
 
--- every turn of a loop of checks was fine
-pub each-all : (k i : ℕ) (f : ℕ → Check) → fine ≡ each k i f → (j n : ℕ) → n ≡ i + j → j < k → fine ≡ f n
-unfolding each
-each-all zero i f e j n q b = absurd (omega arith)
-each-all (suc k) i f e zero n q b =
-    let a = first (f i) _ tt e in
-    let g : n ≡ i = omega arith in
-    rw g (a .1)
-each-all (suc k) i f e (suc j) n q b =
-    let a = first (f i) _ tt e in
-    each-all k (i + 1) f (a .2) j n (omega arith) (omega arith)
-
-pub kept : (t : Bool) (nr place : ℕ) → fine ≡ require t nr place → t ≡ true
-kept true nr place e = refl
-kept false nr place e = absurd (never e)
-
-same : (cells table : List ℕ) → ((i : ℕ) → i < length table → getD table i 0 ≡ getD cells i 0) → length cells ≤ length table → take (length cells) table ≡ cells
-same [] table h l = refl
-same (c ∷ cs) [] h l = absurd (omega arith)
-same (c ∷ cs) (t ∷ ts) h l = λ i. h 0 (omega arith) i ∷ same cs ts (λ j k. h (suc j) (omega arith)) (omega arith) i
+equal : (cells table : List ℕ) → ((i : ℕ) → i < length table → getD table i 0 ≡ getD cells i 0) → length cells ≤ length table → take (length cells) table ≡ cells
+equal [] table h l = refl
+equal (c ∷ cs) [] h l = absurd (omega arith)
+equal (c ∷ cs) (t ∷ ts) h l = λ i. h 0 (omega arith) i ∷ equal cs ts (λ j k. h (suc j) (omega arith)) (omega arith) i
 
 pub agreed : (cells table : List ℕ) → fine ≡ agree cells table → take (length cells) table ≡ cells
 unfolding agree
 agreed cells table e =
     let a = first (each (length table) 0 (sameAt cells table)) _ tt e in
-    same cells table
-    (λ i k. eqb-true _ _ (kept (eqb (getD table i 0) (getD cells i 0)) 12 i (each-all (length table) 0 (sameAt cells table) (a .1) i i (omega arith) k)))
-    (leb-true _ _ (kept (leb (length cells) (length table)) 12 (length table) (a .2)))
+    equal cells table
+    (λ i k. eqb-true _ _ (required (eqb (getD table i 0) (getD cells i 0)) 12 i (each-at (length table) 0 (sameAt cells table) (a .1) i (omega arith) (omega arith))))
+    (leb-true _ _ (required (leb (length cells) (length table)) 12 (length table) (a .2)))
 
 -- ---- from an accepted table to the pool that lookups look at
-
-abbrev wholeIn : Whole → Answer Whole → Whole
-wholeIn d (accept w) = w
-wholeIn d (refuse nr place) = d
-
-whole-of : (h : Head) (y : Answer Whole) → accept h ≡ mapped headOf y → (w : Whole) × (accept w ≡ y) × (h ≡ headOf w)
-whole-of h (accept w) e = (w, refl, cc)
-whole-of h (refuse nr place) e = absurd (never e)
 
 module _ (s table : List ℕ) where
   pub its-cells : (w : Whole) → accept w ≡ handed s table → (w .pool .file ≡ s) × (take (length (w .pool .cells)) table ≡ w .pool .cells)
@@ -81,7 +56,7 @@ module _ (s table : List ℕ) where
       let r = first (readPool s noLimit) _ w e in
       let j = first (agree (r .0 .pool .cells) table >>= _) _ w (r .2) in
       let a = first (agree (r .0 .pool .cells) table) _ tt (j .1) in
-      let q : r .0 ≡ w = sym (ap (wholeIn w) (j .2)) in
+      let q : r .0 ≡ w = sym (same (j .2)) in
       rw (← q) (its-file s noLimit (r .0) (r .1), agreed (r .0 .pool .cells) table (a .1))
 
   looks-at : (h : Head) (w : Whole) → accept w ≡ handed s table → h ≡ headOf w → seen s (h .major) table (h .slots) ≡ w .pool
@@ -95,16 +70,9 @@ module _ (s table : List ℕ) where
     pub on-handed : (h : Head) → accept h ≡ mapped headOf (handed s table) → f (seen s (h .major) table (h .slots)) ≡ lookup s table f
     unfolding lookup
     on-handed h e =
-        let w = whole-of h (handed s table) e in
-        rw (← w .1) (ap f (looks-at h (w .0) (w .1) (w .2)))
-
-    off : (nr place : ℕ) (y : Answer Whole) → refuse nr place ≡ mapped headOf y → refuse nr place ≡ (y >>= λ w. f (w .pool))
-    off nr place (accept w) e = absurd (never (sym e))
-    off nr place (refuse a b) e =
-        let x : nr ≡ a = cc in
-        let z : place ≡ b = cc in
-        rw (x, z) refl
+        let w = whole-of headOf (handed s table) h e in
+        rw (← w .1) (ap f (looks-at h (w .0) (w .1) (sym (w .2))))
 
     pub off-handed : (nr place : ℕ) → refuse nr place ≡ mapped headOf (handed s table) → refuse nr place ≡ lookup s table f
     unfolding lookup
-    off-handed nr place e = off nr place (handed s table) e
+    off-handed nr place e = rw (← refused-of headOf (handed s table) nr place e) refl

@@ -9,8 +9,8 @@ use native.Mathlib.Numerals.{add-one}
 use lib.ListN.{length, getD, List·getD-eq-default}
 use lib.Dec.{leb, ltb, eqb}
 use borrow.Author.Tests.{le-leb, leb-true, leb-false, ltb-true, ltb-false, eq-eqb, ne-eqb, eqb-true, eqb-false}
-use Rattle.reads.specs.Answer.{Answer, Check, fine, accept, refuse, _>>=_, require, each, mapped}
-use Rattle.reads.proofs.Answers.{never, first, each-go, each-stop, each-done}
+use Rattle.reads.specs.Answer.{Check, fine, accept, refuse, _>>=_, require, each, mapped}
+use Rattle.reads.proofs.Answers.{alike, whole-of, refused-of, each-go, each-stop, each-done}
 use Rattle.pool.specs.declared.Header.{Header}
 use Rattle.pool.specs.Pool.{Whole, Read, headerOf, allEntries, wholeOf, readPool, seen}
 use Rattle.pool.specs.Readings.{headOf}
@@ -69,10 +69,6 @@ last-fine : (x : Check) → (x >>= λ _. fine) ≡ x
 last-fine (accept _) = refl
 last-fine (refuse nr place) = refl
 
-same-after : (x : Check) (y z : Check) → (fine ≡ x → y ≡ z) → (x >>= λ _. y) ≡ (x >>= λ _. z)
-same-after (accept _) y z h = h refl
-same-after (refuse nr place) y z h = refl
-
 -- ---- 12
 
 module _ (cells table : List ℕ) where
@@ -110,7 +106,7 @@ module _ (s : List ℕ) (major : ℕ) (cells table : List ℕ) where
           → (require b 12 (agreeing cells table) >>= λ _. rest table (length cells) >>= λ _. checked (seen s major table (length cells))) ≡ (agree cells table >>= λ _. checked (record { file = s; major = major; cells = cells }))
       by-test true e =
           rw (← on cells table (leb-true _ _ e))
-          (same-after (agree cells table) _ _ (λ g. ap (λ (l : List ℕ). checked (record { file = s; major = major; cells = l })) (agreed cells table g)))
+          (alike (agree cells table) _ _ (λ _ g. ap (λ (l : List ℕ). checked (record { file = s; major = major; cells = l })) (agreed cells table g)))
       by-test false e = rw (← off cells table (leb-false _ _ e)) refl
 
 -- ---- the whole
@@ -125,20 +121,9 @@ module _ (s table : List ℕ) where
   no-header nr place e = rw (← e) refl
 
   module _ (h : Header) (e : accept h ≡ headerOf s) where
-    no-read : (nr place : ℕ) (y : Answer Read) → refuse nr place ≡ mapped (walkedOf table) y → refuse nr place ≡ y
-    no-read nr place (accept r) q = absurd (never (sym q))
-    no-read nr place (refuse n p) q =
-        let a : nr ≡ n = cc in
-        let b : place ≡ p = cc in
-        rw (a, b) refl
-
     pub not-walked : (nr place : ℕ) → refuse nr place ≡ mapped (walkedOf table) (allEntries s (h .major) (h .count) noLimit) → refuse nr place ≡ mapped headOf (handed s table)
     unfolding handed readPool
-    not-walked nr place q = rw (← e, ← no-read nr place (allEntries s (h .major) (h .count) noLimit) q) refl
-
-    was-read : (w : Walked) (y : Answer Read) → accept w ≡ mapped (walkedOf table) y → (r : Read) × (accept r ≡ y) × (w ≡ walkedOf table r)
-    was-read w (accept r) q = (r, refl, cc)
-    was-read w (refuse nr place) q = absurd (never q)
+    not-walked nr place q = rw (← e, ← refused-of (walkedOf table) (allEntries s (h .major) (h .count) noLimit) nr place q) refl
 
     -- what is judged is the pool that was read
     from-read : (r : Read) → accept r ≡ allEntries s (h .major) (h .count) noLimit → (x : Check) → x ≡ judgedAs s (h .major) table (length (r .cells)) (agreeing (r .cells) table)
@@ -151,9 +136,9 @@ module _ (s table : List ℕ) where
     module _ (w : Walked) (q : accept w ≡ mapped (walkedOf table) (allEntries s (h .major) (h .count) noLimit)) where
       judges : (x : Check) → x ≡ judgedAs s (h .major) table (w .slots) (w .same) → mapped headOf (handed s table) ≡ (x >>= λ _. accept (record { slots = w .slots; minor = h .minor; major = h .major; next = w .next }))
       judges x j =
-          let r = was-read w (allEntries s (h .major) (h .count) noLimit) q in
-          from-read (r .0) (r .1) x (j ∙ ap (λ (v : Walked). judgedAs s (h .major) table (v .slots) (v .same)) (r .2))
-          ∙ sym (ap (λ (v : Walked). x >>= λ _. accept (record { slots = v .slots; minor = h .minor; major = h .major; next = v .next })) (r .2))
+          let r = whole-of (walkedOf table) (allEntries s (h .major) (h .count) noLimit) w q in
+          from-read (r .0) (r .1) x (j ∙ sym (ap (λ (v : Walked). judgedAs s (h .major) table (v .slots) (v .same)) (r .2)))
+          ∙ ap (λ (v : Walked). x >>= λ _. accept (record { slots = v .slots; minor = h .minor; major = h .major; next = v .next })) (r .2)
 
       pub good : fine ≡ judgedAs s (h .major) table (w .slots) (w .same) → accept (record { slots = w .slots; minor = h .minor; major = h .major; next = w .next }) ≡ mapped headOf (handed s table)
       good j = sym (judges fine j)

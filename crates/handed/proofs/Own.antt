@@ -4,39 +4,36 @@ use mathlib.Core.Bool.{Bool, true, false}
 use mathlib.Core.List.{List, [], _∷_, _++_}
 use Prim.Native.Nat.{ℕ, zero, suc, _+_, _-_, _≤_, _<_}
 use native.Mathlib.Omega.{arith}
-use lib.ListN.{length, getD, replicate, length-append}
+use lib.ListN.{length}
 use lib.Dec.{ltb}
 use borrow.Author.Tests.{lt-ltb, eq-eqb}
-use Rattle.reads.specs.Answer.{Answer, Check, fine, accept, _>>=_, each}
+use Rattle.reads.specs.Answer.{Answer, Check, fine, accept, each}
 use Rattle.reads.specs.Tables.{padded, after}
-use Rattle.reads.proofs.Answers.{first, held}
-use Rattle.reads.proofs.Tables.{padded-length}
+use Rattle.reads.proofs.Answers.{same, first, held, each-at}
+use Rattle.reads.proofs.Leaves.{Bytes}
+use Rattle.reads.proofs.Tables.{padded-length, longer, padded-at}
 use Rattle.pool.specs.declared.Slot.{Slot}
 use Rattle.pool.specs.Kinds as kind
 use Rattle.pool.specs.Pool.{Pool, Whole, Read, slotAt, entries, allEntries, headerOf, readPool, slots}
-use Rattle.pool.proofs.Entries.{same}
 use Rattle.pool.proofs.Slots.{slots-fit}
-use Rattle.pool.proofs.Room.{Bytes, few-read}
+use Rattle.pool.proofs.Room.{few-read}
 use Rattle.slot.specs.Slots.{tagOf, ofKind}
 use Rattle.checks.specs.Checks.{obey, checked, pool}
 use Rattle.handed.specs.Handed.{agree, judged, noLimit, handed, lookup, asked}
-use Rattle.handed.proofs.Handed.{agrees, sameAt, each-all}
+use Rattle.handed.proofs.Handed.{agrees, sameAt}
 
 -- ---- what was read with some room is read the same with any that suffices
 
 module _ (s : List ℕ) (major room : ℕ) where
-  one-longer : (cells : List ℕ) (x : ℕ) → length (cells ++ x ∷ []) ≡ length cells + 1
-  one-longer cells x = simp length-append
-
   grows : (k : ℕ) (owed : Bool) (cells : List ℕ) (at : ℕ) (r : Read) → accept r ≡ entries k owed s major room cells at → length cells + k ≤ length (r .cells)
   unfolding entries
   grows zero false cells at r e = omega (arith, ap (λ (x : Read). length (x .cells)) (same e))
   grows zero true cells at r e =
       let a = held (ltb (length cells) room) 5 (length cells) _ r e in
-      omega (arith, one-longer cells 0, ap (λ (x : Read). length (x .cells)) (same (a .1)))
+      omega (arith, longer cells 0, ap (λ (x : Read). length (x .cells)) (same (a .1)))
   grows (suc k) owed cells at r e =
       let a = first (slotAt s major room (length cells) owed at) _ r e in
-      omega (arith, one-longer cells (a .0 .cell), grows k (a .0 .wide) (cells ++ a .0 .cell ∷ []) (a .0 .next) r (a .2))
+      omega (arith, longer cells (a .0 .cell), grows k (a .0 .wide) (cells ++ a .0 .cell ∷ []) (a .0 .next) r (a .2))
 
   module _ (more : ℕ) where
     slot-again : (n : ℕ) (owed : Bool) (at : ℕ) (e : Slot) → n < more → accept e ≡ slotAt s major room n owed at → accept e ≡ slotAt s major more n owed at
@@ -49,10 +46,10 @@ module _ (s : List ℕ) (major room : ℕ) where
     entries-again zero true cells at r h e =
         let a = held (ltb (length cells) room) 5 (length cells) _ r e in
         let g = ap (λ (x : Read). length (x .cells)) (same (a .1)) in
-        rw (lt-ltb (length cells) more (omega (arith, one-longer cells 0))) (a .1)
+        rw (lt-ltb (length cells) more (omega (arith, longer cells 0))) (a .1)
     entries-again (suc k) owed cells at r h e =
         let a = first (slotAt s major room (length cells) owed at) _ r e in
-        let m = one-longer cells (a .0 .cell) in
+        let m = longer cells (a .0 .cell) in
         let g = grows k (a .0 .wide) (cells ++ a .0 .cell ∷ []) (a .0 .next) r (a .2) in
         rw (← slot-again (length cells) owed at (a .0) (omega arith) (a .1)) (entries-again k (a .0 .wide) (cells ++ a .0 .cell ∷ []) (a .0 .next) r h (a .2))
 
@@ -73,24 +70,13 @@ read-again s room more w h e =
 
 -- ---- cells and zeros agree with the cells
 
-zeros : (m i : ℕ) → _≡_ {A = ℕ} (getD (replicate m 0) i 0) 0
-zeros zero i = refl
-zeros (suc m) zero = refl
-zeros (suc m) (suc i) = zeros m i
-
-then-zeros : (cells : List ℕ) (m i : ℕ) → getD (cells ++ replicate m 0) i 0 ≡ getD cells i 0
-then-zeros [] m i = zeros m i
-then-zeros (c ∷ cells) m zero = refl
-then-zeros (c ∷ cells) m (suc i) = then-zeros cells m i
-
 all-fine : (k i : ℕ) (f : ℕ → Check) → ((n : ℕ) → f n ≡ fine) → each k i f ≡ fine
 unfolding each
 all-fine zero i f h = refl
 all-fine (suc k) i f h = rw (h i) (all-fine k (i + 1) f h)
 
 own-cell : (cells : List ℕ) (len i : ℕ) → sameAt cells (padded 0 len cells) i ≡ fine
-unfolding padded
-own-cell cells len i = rw (eq-eqb _ _ (then-zeros cells (len - length cells) i)) refl
+own-cell cells len i = rw (eq-eqb _ _ (padded-at len cells i)) refl
 
 pub own-cells : (cells : List ℕ) (len : ℕ) → length cells ≤ len → fine ≡ agree cells (padded 0 len cells)
 own-cells cells len h = agrees cells (padded 0 len cells) (all-fine _ 0 _ (own-cell cells len)) (rw (padded-length 0 len cells h) h)
@@ -131,7 +117,7 @@ module _ (s table : List ℕ) (w : Whole) (o : accept w ≡ handed s table) wher
       let a = first (agree (r .0 .pool .cells) table) _ tt (j .1) in
       let c = first (each (slots (r .0 .pool)) 0 _) _ tt (a .2) in
       let q : r .0 ≡ w = sym (same (j .2)) in
-      rw (← q) (each-all (slots (r .0 .pool)) 0 _ (c .2) n n (omega arith) (rw (← q) at h))
+      rw (← q) (let l = rw (← q) at h in each-at (slots (r .0 .pool)) 0 _ (c .2) n (omega arith) (omega arith))
 
 -- a slot of a kind that is asked for
 pub asked-fine : (p : Pool) (allowed n : ℕ) → n < slots p → kind.has allowed (tagOf p n) ≡ true → fine ≡ asked p allowed n

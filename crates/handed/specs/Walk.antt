@@ -1,12 +1,12 @@
 -- How a handed table is compared while the entries are read. Assumes nothing.
 use Prim.Native.Nat.{ℕ, suc, _+_, _-_}
-use mathlib.Core.Path.{_≡_, refl}
+use mathlib.Core.Path.{refl}
 use mathlib.Core.List.{List, [], _∷_}
 use mathlib.Core.Bool.{cond}
 use lib.ListN.{length, getD}
 use lib.Dec.{leb, ltb, eqb}
-use Rattle.reads.specs.Answer.{Answer, Check, accept, refuse, _>>=_, require, each}
-use Rattle.reads.specs.Promise.{Reading, refused, refusal}
+use Rattle.reads.specs.Answer.{Answer, Check, accept, _>>=_, require, each}
+use Rattle.reads.specs.Promise.{Reading, reading, refused}
 use Rattle.pool.specs.Pool.{Read, seen}
 use Rattle.checks.specs.Checks.{checked}
 use Rattle.handed.specs.declared.Walked.{Walked}
@@ -44,13 +44,5 @@ abbrev readWalk : WalkAnswer → Answer Walked
 readWalk (Got w) = accept w
 readWalk (Refused r) = refused r
 
-abbrev backWalk : Answer Walked → WalkAnswer
-backWalk (accept w) = Got w
-backWalk (refuse nr place) = Refused (refusal nr place)
-
-pub againWalk : (r : WalkAnswer) → backWalk (readWalk r) ≡ r
-againWalk (Got w) = refl
-againWalk (Refused r) = refl
-
 abbrev pub readingWalk : Reading WalkAnswer (Answer Walked)
-readingWalk = record { read = readWalk; back = backWalk; again = againWalk }
+readingWalk = reading Got Refused readWalk (elim [ Got w ↦ refl | Refused r ↦ refl ])

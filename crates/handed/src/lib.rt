@@ -29,7 +29,7 @@ enum WalkAnswer {
 }
 
 // That cell i of a handed table is the one that the file gives.
-fn same_cell(given: u32, made: u32, i: usize) -> CheckAnswer
+pub fn same_cell(given: u32, made: u32, i: usize) -> CheckAnswer
     ensures { λ r. ⌜ Is readingCheck (require (eqb given made) 12 i) r ⌝ }
 {
     if given == made {

@@ -1,23 +1,23 @@
 -- The loop over interfaces: one turn, its ends, and what it leaves in the list. Assumes nothing.
 use mathlib.Core.Path.{_≡_, refl, ap, sym, subst, _∙_}
-use mathlib.Core.List.{List, [], _∷_, map, map-id}
+use mathlib.Core.List.{List, map-id}
 use Prim.Native.Nat.{ℕ, _+_, _-_, _≤_, _<_}
 use native.Mathlib.Omega.{arith}
 use lib.ListN.{length, set, replicate, length-set, length-replicate}
 use lib.Dec.{ltb}
 use borrow.Author.Tests.{ltb-true}
-use Rattle.reads.specs.Answer.{Answer, accept, refuse, _>>=_, mapped}
+use Rattle.reads.specs.Answer.{Answer, accept, refuse, mapped}
 use Rattle.reads.specs.Bytes.{u2}
 use Rattle.reads.specs.Tables.{after}
-use Rattle.reads.proofs.Answers.{first, held, never}
+use Rattle.reads.proofs.Answers.{first, held, never, refused-of}
+use Rattle.reads.proofs.Leaves.{u2-in}
 use Rattle.pool.specs.Pool.{Pool}
 use Rattle.attributes.specs.Records.{Many, records, column, stored}
 use Rattle.attributes.proofs.Columns.{turn-end, turn-column, stop, done, column-stop, column-done}
-use Rattle.attributes.proofs.Frames.{u2-in}
-use Rattle.attributes.proofs.Tiled.{made}
+use Rattle.attributes.proofs.Tiled.{made, roomy}
 use Rattle.header.specs.Header.{classAt, interfaceAt, past, interfacesAt}
 use Rattle.header.specs.Readings.{listedOf}
-use Rattle.header.proofs.Placed.{refused-of, whole-of, roomy, stored-zero}
+use Rattle.header.proofs.Placed.{stored-zero}
 
 -- it has its room, and stands in the file
 pub interface-in : (p : Pool) (room n at m : ℕ) → accept m ≡ interfaceAt p room n at → (n < room) × (at + 2 ≤ length (p .file))

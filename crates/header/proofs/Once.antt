@@ -3,15 +3,12 @@ use mathlib.Core.Path.{_≡_}
 use mathlib.Core.List.{List}
 use Prim.Native.Nat.{ℕ}
 use Rattle.reads.specs.Answer.{mapped}
-use Rattle.reads.specs.Promise.{Is, AtMostOne, one-answer, one-outcome, readingCheck}
+use Rattle.reads.specs.Promise.{Is, AtMostOne, one-answer, one-outcome}
 use Rattle.reads.specs.Tables.{after}
 use Rattle.pool.specs.Pool.{Pool}
 use Rattle.header.specs.declared.ListedAnswer.{ListedAnswer}
-use Rattle.header.specs.Header.{classAt, headAt, interfacesAt}
+use Rattle.header.specs.Header.{headAt, interfacesAt}
 use Rattle.header.specs.Readings.{listedOf, readingHead, readingListed}
-
-pub check-class-once : (p : Pool) (place m : ℕ) → AtMostOne (Is readingCheck (classAt p place m))
-check-class-once p place m = one-answer readingCheck (classAt p place m)
 
 pub read-head-once : (p : Pool) (at : ℕ) → AtMostOne (Is readingHead (headAt p at))
 read-head-once p at = one-answer readingHead (headAt p at)

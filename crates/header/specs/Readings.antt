@@ -1,9 +1,9 @@
 -- How the answers of this crate are read. Assumes nothing.
 use Prim.Native.Nat.{ℕ}
-use mathlib.Core.Path.{_≡_, refl}
+use mathlib.Core.Path.{refl}
 use lib.ListN.{length}
-use Rattle.reads.specs.Answer.{Answer, accept, refuse}
-use Rattle.reads.specs.Promise.{Reading, refused, refusal}
+use Rattle.reads.specs.Answer.{Answer, accept}
+use Rattle.reads.specs.Promise.{Reading, reading, refused}
 use Rattle.attributes.specs.Records.{Many}
 use Rattle.header.specs.declared.ClassHead.{ClassHead}
 use Rattle.header.specs.declared.HeadAnswer.{HeadAnswer}
@@ -20,28 +20,12 @@ abbrev readHead : HeadAnswer → Answer ClassHead
 readHead (GotHead h) = accept h
 readHead (NoHead r) = refused r
 
-abbrev backHead : Answer ClassHead → HeadAnswer
-backHead (accept h) = GotHead h
-backHead (refuse nr place) = NoHead (refusal nr place)
-
-pub againHead : (r : HeadAnswer) → backHead (readHead r) ≡ r
-againHead (GotHead h) = refl
-againHead (NoHead r) = refl
-
 abbrev pub readingHead : Reading HeadAnswer (Answer ClassHead)
-readingHead = record { read = readHead; back = backHead; again = againHead }
+readingHead = reading GotHead NoHead readHead (elim [ GotHead h ↦ refl | NoHead r ↦ refl ])
 
 abbrev readListed : ListedAnswer → Answer Listed
 readListed (GotListed h) = accept h
 readListed (NotListed r) = refused r
 
-abbrev backListed : Answer Listed → ListedAnswer
-backListed (accept h) = GotListed h
-backListed (refuse nr place) = NotListed (refusal nr place)
-
-pub againListed : (r : ListedAnswer) → backListed (readListed r) ≡ r
-againListed (GotListed h) = refl
-againListed (NotListed r) = refl
-
 abbrev pub readingListed : Reading ListedAnswer (Answer Listed)
-readingListed = record { read = readListed; back = backListed; again = againListed }
+readingListed = reading GotListed NotListed readListed (elim [ GotListed h ↦ refl | NotListed r ↦ refl ])

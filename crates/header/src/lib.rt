@@ -39,7 +39,7 @@ pub enum ListedAnswer {
 const CLASS: u32 = 0x80;
 
 // That m is a slot, of kind Class, with a binary name.
-pub fn check_class(
+fn check_class(
     file: &[u8],
     major: u16,
     table: &[u32],

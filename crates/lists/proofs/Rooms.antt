@@ -1,18 +1,17 @@
 -- The dependants of a slot are no more than there are slots: a list of so many cells is as good as a longer one. Assumes nothing.
 use mathlib.Core.Path.{_≡_, refl, ap, sym, _∙_}
 use mathlib.Core.Bool.{Bool, true, false, cond}
-use mathlib.Core.List.{List, [], _∷_, _++_}
-use Prim.Native.Nat.{ℕ, zero, suc, _+_, _/_, _≤_, _<_, min}
+use mathlib.Core.List.{List, [], _∷_}
+use Prim.Native.Nat.{ℕ, zero, suc, _/_, _≤_, _<_, min}
 use native.Mathlib.Omega.{arith}
 use lib.ListN.{length, take, replicate, length-append}
 use lib.Dec.{leb, ltb}
 use borrow.Author.Tests.{leb-true, leb-false, le-leb, lt-leb}
-use Rattle.reads.specs.Answer.{Answer, fine, accept, refuse, _>>=_, mapped, require}
+use Rattle.reads.specs.Answer.{Answer, accept, refuse, _>>=_, mapped}
 use Rattle.reads.specs.Bytes.{num2}
 use Rattle.reads.specs.Tables.{after}
-use Rattle.reads.proofs.Answers.{first, held}
+use Rattle.reads.proofs.Answers.{same, first, held, alike}
 use Rattle.pool.specs.Pool.{Pool, Whole, readPool, slots}
-use Rattle.pool.proofs.Entries.{same}
 use Rattle.pool.proofs.Slots.{slots-fit}
 use Rattle.handed.specs.Handed.{judged, noLimit, handed, lookup}
 use Rattle.reach.specs.Reach.{reaches, sieve, dependantsIn}
@@ -64,14 +63,10 @@ module _ (s : List ℕ) (most : ℕ) (above : num2 s 8 < most) (below : num2 s 8
       rw (← q) (slots-fit s most (r .0) (r .1 ∙ sym (read-same s most noLimit above below)))
 
   module _ (n room k : ℕ) (e : k ≡ min room most) where
-    on-pool : (y : Answer Whole) → y ≡ handed s table → (y >>= λ w. dependantsAt n k (w .pool)) ≡ (y >>= λ w. dependantsAt n room (w .pool))
-    on-pool (accept w) q = same-answer (w .pool) n room most k (few-slots w q) e
-    on-pool (refuse nr place) q = refl
-
     -- the dependants in cells that stand for the table, with as much room as is used
     pub same-list : (cells made : List ℕ) → cells ≡ made → handed s made ≡ handed s table → dependants s cells n k ≡ dependants s table n room
     unfolding lookup
-    same-list cells made c h = ap (λ (y : Answer Whole). y >>= λ w. dependantsAt n k (w .pool)) (ap (handed s) c ∙ h) ∙ on-pool (handed s table) refl
+    same-list cells made c h = ap (λ (y : Answer Whole). y >>= λ w. dependantsAt n k (w .pool)) (ap (handed s) c ∙ h) ∙ alike (handed s table) _ _ (λ w q. same-answer (w .pool) n room most k (few-slots w q) e)
 
 -- no list is longer than 65,536
 pub few-listed : (s table : List ℕ) (n room : ℕ) (xs : List ℕ) → accept xs ≡ dependants s table n room → length xs ≤ noLimit

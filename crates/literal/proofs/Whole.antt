@@ -9,7 +9,8 @@ use lib.Dec.{T, ltb, eqb}
 use borrow.Author.Tests.{lt-ltb, le-ltb}
 use lib.Ieee.{Format, binary32, binary64, isNan, nanBits, ofBits, toBits, top}
 use lib.Ieee.Bits.{nanBits-is, toBits-ofBits}
-use Rattle.reads.specs.Bytes.{num1, num2, num4, num8}
+use Rattle.reads.specs.Bytes.{num4, num8}
+use Rattle.reads.proofs.Leaves.{Bytes, pair-below}
 use Rattle.pool.specs.Kinds as kind
 use Rattle.literal.specs.Values.{Literal, twos, single, twofold, numberAt, pattern, bitsOf}
 
@@ -66,12 +67,9 @@ by-tag w x y z p q r e false true l = q
 by-tag w x y z p q r e false false true = r
 by-tag w x y z p q r e false false false = e
 
-module _ (s : List ℕ) (b : (i : ℕ) → num1 s i < 256) where
-  pair-small : (at : ℕ) → num2 s at < 65536
-  pair-small at = omega (arith, b at, b (at + 1))
-
+module _ (s : List ℕ) (b : Bytes s) where
   quad-small : (at : ℕ) → num4 s at < 4294967296
-  quad-small at = omega (arith, pair-small at, pair-small (at + 2))
+  quad-small at = omega (arith, pair-below s b at, pair-below s b (at + 2))
 
   oct-small : (at : ℕ) → num8 s at < 18446744073709551616
   oct-small at = omega (arith, quad-small at, quad-small (at + 4))

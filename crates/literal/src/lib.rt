@@ -1,7 +1,7 @@
 // The values of literals: the file's bits as integers and floats of the language, and back.
 use reads::Refusal;
 ghost use mathlib.Core.Path.{_≡_};
-ghost use Prim.Native.Nat.{_+_, _*_, _≤_};
+ghost use Prim.Native.Nat.{_+_, _≤_};
 ghost use lib.Ieee.{binary32, binary64, toBits};
 ghost use Rattle.reads.specs.Answer.{accept};
 ghost use Rattle.reads.specs.Bytes.{num4, num8};
@@ -22,24 +22,12 @@ pub enum LiteralAnswer {
     Refused(Refusal),
 }
 
-fn join4(a: u16, b: u16) -> u32
-    ensures { λ r. ⌜ r ≡ a * 65536 + b ⌝ }
-{
-    (a as u32) * 65536 + (b as u32)
-}
-
-fn join8(a: u32, b: u32) -> u64
-    ensures { λ r. ⌜ r ≡ a * 4294967296 + b ⌝ }
-{
-    (a as u64) * 4294967296 + (b as u64)
-}
-
 // Four bytes at a place of the file, each 0 past its end.
 fn quad_at(s: &[u8], at: usize) -> u32
     requires { ⌜ at ≤ 4294967300 ⌝ }
     ensures { λ r. ⌜ r ≡ num4 (now (s .entry)) at ⌝ }
 {
-    join4(reads::pair_at(s, at), reads::pair_at(s, at + 2))
+    reads::join4(reads::pair_at(s, at), reads::pair_at(s, at + 2))
 }
 
 // Eight of them.
@@ -47,11 +35,11 @@ fn oct_at(s: &[u8], at: usize) -> u64
     requires { ⌜ at ≤ 4294967296 ⌝ }
     ensures { λ r. ⌜ r ≡ num8 (now (s .entry)) at ⌝ }
 {
-    join8(quad_at(s, at), quad_at(s, at + 4))
+    reads::join8(quad_at(s, at), quad_at(s, at + 4))
 }
 
 // 32 bits as two's complement.
-pub fn to_i32(x: u32) -> i32
+fn to_i32(x: u32) -> i32
     ensures { λ r. ⌜ r ≡ twos 32 x ⌝ }
 {
     if x < 2147483648 {
@@ -62,7 +50,7 @@ pub fn to_i32(x: u32) -> i32
 }
 
 // 64 bits as two's complement.
-pub fn to_i64(x: u64) -> i64
+fn to_i64(x: u64) -> i64
     ensures { λ r. ⌜ r ≡ twos 64 x ⌝ }
 {
     if x < 9223372036854775808 {
@@ -73,7 +61,7 @@ pub fn to_i64(x: u64) -> i64
 }
 
 // The Float of 32 bits, or the bits where they are a NaN's.
-pub fn float_of(b: u32) -> LiteralAnswer
+fn float_of(b: u32) -> LiteralAnswer
     ensures { λ r. ⌜ Is readingLiteral (accept (single b)) r ⌝ }
 {
     if b % 2147483648 <= 2139095040 {
@@ -84,7 +72,7 @@ pub fn float_of(b: u32) -> LiteralAnswer
 }
 
 // The Double of 64 bits, or the bits where they are a NaN's.
-pub fn double_of(b: u64) -> LiteralAnswer
+fn double_of(b: u64) -> LiteralAnswer
     ensures { λ r. ⌜ Is readingLiteral (accept (twofold b)) r ⌝ }
 {
     if b % 9223372036854775808 <= 9218868437227405312 {

@@ -5,9 +5,10 @@ use Prim.Native.Nat.{ℕ, _≤_}
 use native.Mathlib.Omega.{arith}
 use lib.ListN.{length}
 use Rattle.reads.specs.Answer.{Answer, accept, refuse, mapped}
+use Rattle.reads.proofs.Leaves.{Bytes}
 use Rattle.pool.specs.declared.Head.{Head}
 use Rattle.pool.specs.Pool.{Whole, readPool}
-use Rattle.pool.proofs.Room.{Bytes, few-read}
+use Rattle.pool.proofs.Room.{few-read}
 use Rattle.pool.specs.Readings.{headOf}
 use Rattle.checks.specs.Checks.{pool}
 use Rattle.checks.proofs.Room.{slots-in-room}

@@ -1,16 +1,16 @@
 -- The table that `luo_pool` leaves, handed in again, is the pool that it read: every lookup on it looks at that pool. Assumes nothing.
-use mathlib.Core.Path.{_≡_, refl, ap, sym, _∙_}
-use mathlib.Core.List.{List, [], _∷_, _++_}
-use Prim.Native.Nat.{ℕ, zero, suc, _+_, _-_, _/_, _≤_, _<_}
+use mathlib.Core.Path.{_≡_, ap, sym, _∙_}
+use mathlib.Core.List.{List}
+use Prim.Native.Nat.{ℕ, zero, suc, _/_, _≤_, _<_}
 use native.Mathlib.Omega.{arith}
-use lib.ListN.{length, getD, replicate}
+use lib.ListN.{length}
 use Rattle.reads.specs.Answer.{Answer, accept}
 use Rattle.reads.specs.Tables.{padded, after}
 use Rattle.reads.proofs.Answers.{first}
-use Rattle.reads.proofs.Tables.{padded-length}
+use Rattle.reads.proofs.Leaves.{Bytes}
+use Rattle.reads.proofs.Tables.{padded-length, padded-at}
 use Rattle.pool.specs.Pool.{Pool, Whole, headerOf, readPool}
 use Rattle.pool.proofs.Entries.{header-in}
-use Rattle.pool.proofs.Room.{Bytes}
 use Rattle.checks.specs.Checks.{pool}
 use Rattle.checks.proofs.Room.{was-read, slots-in-room, cells-inside}
 use Rattle.handed.specs.Handed.{handed, lookup}
@@ -22,13 +22,6 @@ below : (c len : ℕ) → (0 < c → c < len) → len ≤ 16777216 → c < 42949
 below zero len f h = omega arith
 below (suc c) len f h = omega (arith, f (omega arith))
 
-then-zeros : (xs : List ℕ) (k : ℕ) → Words xs → Words (xs ++ replicate k 0)
-then-zeros [] zero w i = omega arith
-then-zeros [] (suc k) w zero = omega arith
-then-zeros [] (suc k) w (suc i) = then-zeros [] k w i
-then-zeros (x ∷ xs) k w zero = w 0
-then-zeros (x ∷ xs) k w (suc i) = then-zeros xs k (λ j. w (suc j)) i
-
 module _ (s : List ℕ) (b : Bytes s) (len : ℕ) (w : Whole) (e : accept w ≡ pool s (len / 4)) where
   short : length s ≤ 16777216
   unfolding readPool
@@ -37,8 +30,7 @@ module _ (s : List ℕ) (b : Bytes s) (len : ℕ) (w : Whole) (e : accept w ≡ 
       header-in s (h .0) (h .1)
 
   words : Words (padded 0 (len / 4) (w .pool .cells))
-  unfolding padded
-  words = then-zeros (w .pool .cells) (len / 4 - length (w .pool .cells)) (λ i. below _ (length s) (cells-inside s (len / 4) w e i) short)
+  words i = rw (padded-at (len / 4) (w .pool .cells) i) (below _ (length s) (cells-inside s (len / 4) w e i) short)
 
   back : cellsIn (asBytes len (padded 0 (len / 4) (w .pool .cells))) ≡ padded 0 (len / 4) (w .pool .cells)
   back = there-and-back len (padded 0 (len / 4) (w .pool .cells)) (padded-length 0 (len / 4) (w .pool .cells) (slots-in-room s (len / 4) w e)) words

@@ -1,4 +1,3 @@
-pub mod Ranks
 pub mod Chains
 pub mod Sieve
 pub mod Listed

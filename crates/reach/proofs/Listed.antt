@@ -8,14 +8,14 @@ use mathlib.Core.Logic.{_↔_, ⊎-elim}
 use lib.Dec.{eqb, ltb}
 use borrow.Author.Tests.{eqb-true, eq-eqb, ne-eqb, ltb-true}
 use Rattle.reads.specs.Answer.{fine, each}
-use Rattle.reads.proofs.Answers.{first, held}
-use Rattle.pool.specs.Rows.{one, other, rowOf}
+use Rattle.reads.proofs.Answers.{first, held, required, each-at}
+use Rattle.pool.specs.Rows.{one, rowOf}
 use Rattle.pool.specs.Pool.{Pool, slots}
 use Rattle.slot.specs.Slots.{tagOf, field}
 use Rattle.checks.specs.Checks.{reference, references, checked}
 use Rattle.reach.specs.Reach.{_∈_, refersTo, Refers, Reach, direct, along, anyOf, reaches, dependantsIn, needsIn}
-use Rattle.reach.proofs.Ranks.{rank, rank≤3, not-none}
-use Rattle.reach.proofs.Chains.{required, each-at, of-both, refers-in, leads-low, falls}
+use Rattle.checks.proofs.Ranks.{rank, rank≤3, not-none}
+use Rattle.reach.proofs.Chains.{of-both, refers-in, leads-low, falls}
 use Rattle.reach.proofs.Sieve.{sieve-out, sieve-in, Rising, sieve-rising}
 
 -- ---- tests

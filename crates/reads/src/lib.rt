@@ -47,20 +47,22 @@ pub enum CheckAnswer {
     Refused(Refusal),
 }
 
-// Two bytes as one number, the first the higher; then two such numbers, and two of those.
+// Two bytes as one number, the first the higher.
 fn join2(a: u8, b: u8) -> u16
     ensures { λ r. ⌜ r ≡ a * 256 + b ⌝ }
 {
     (a as u16) * 256 + (b as u16)
 }
 
-fn join4(a: u16, b: u16) -> u32
+// Two such numbers as one, the first the higher.
+pub fn join4(a: u16, b: u16) -> u32
     ensures { λ r. ⌜ r ≡ a * 65536 + b ⌝ }
 {
     (a as u32) * 65536 + (b as u32)
 }
 
-fn join8(a: u32, b: u32) -> u64
+// And two of those.
+pub fn join8(a: u32, b: u32) -> u64
     ensures { λ r. ⌜ r ≡ a * 4294967296 + b ⌝ }
 {
     (a as u64) * 4294967296 + (b as u64)

@@ -4,7 +4,7 @@ use mathlib.Core.Bool.{Bool}
 use mathlib.Core.List.{List}
 use Prim.Native.Nat.{ℕ}
 use Rattle.reads.specs.Answer.{Answer, Check, accept, refuse, _>>=_}
-use Rattle.reads.proofs.Answers.{never}
+use Rattle.reads.proofs.Answers.{never, carried}
 use Rattle.pool.specs.Pool.{Pool, Whole}
 use Rattle.handed.specs.Handed.{handed, lookup, asked}
 use Rattle.literal.specs.Values.{Literal, bitsOf, bitsIn}
@@ -40,39 +40,26 @@ literal-is x l o b e q p =
 
 -- ---- a part of the file: it is refused as the text is
 
-module _ {A B : Type 0} (nr place : ℕ) where
-  as-refused : (x : Check) (a : A) (b : B) → refuse nr place ≡ (x >>= λ _. accept a) → refuse nr place ≡ (x >>= λ _. accept b)
-  as-refused (accept u) a b e = absurd (never (sym e))
-  as-refused (refuse m q) a b e =
-      let y : nr ≡ m = cc in
-      let z : place ≡ q = cc in
-      rw (y, z) refl
-
-  on-pool : (h : Answer Whole) (f : Pool → Answer A) (g : Pool → Answer B) → ((p : Pool) → refuse nr place ≡ f p → refuse nr place ≡ g p)
-      → refuse nr place ≡ (h >>= λ w. f (w .pool)) → refuse nr place ≡ (h >>= λ w. g (w .pool))
-  on-pool (accept w) f g k e = k (w .pool) e
-  on-pool (refuse m q) f g k e =
-      let y : nr ≡ m = cc in
-      let z : place ≡ q = cc in
-      rw (y, z) refl
+as-refused : {A B : Type 0} (x : Check) (a : A) (b : B) (nr place : ℕ) → refuse nr place ≡ (x >>= λ _. accept a) → refuse nr place ≡ (x >>= λ _. accept b)
+as-refused x a b nr place = carried x _ _ nr place (λ _ e. absurd (never (sym e)))
 
 module _ (s t : List ℕ) (n : ℕ) where
   text-to-span : (nr place : ℕ) (p : Pool) → refuse nr place ≡ textAt n p → refuse nr place ≡ spanAt n p
   unfolding textAt spanAt
-  text-to-span nr place p e = as-refused nr place (asked p utf8 n) _ _ e
+  text-to-span nr place p e = as-refused (asked p utf8 n) _ _ nr place e
 
   span-to-text : (nr place : ℕ) (p : Pool) → refuse nr place ≡ spanAt n p → refuse nr place ≡ textAt n p
   unfolding textAt spanAt
-  span-to-text nr place p e = as-refused nr place (asked p utf8 n) _ _ e
+  span-to-text nr place p e = as-refused (asked p utf8 n) _ _ nr place e
 
   pub no-part : (nr place : ℕ) → refuse nr place ≡ lookup s t (textAt n) → none nr place ≡ numbers spanValues (lookup s t (spanAt n))
   unfolding lookup
-  no-part nr place e = rw (← on-pool nr place (handed s t) (textAt n) (spanAt n) (text-to-span nr place) e) refl
+  no-part nr place e = rw (← carried (handed s t) _ _ nr place (λ w. text-to-span nr place (w .pool)) e) refl
 
   by-answer : (b : Bool) (x : Span) (y : Answer Span) → accept b ≡ lookup s t (textAt n) → y ≡ lookup s t (spanAt n) → x ≡ spanIn y → spanValues x ≡ numbers spanValues y
   unfolding lookup
   by-answer b x (accept z) e q p = ap spanValues p
-  by-answer b x (refuse nr place) e q p = absurd (never (e ∙ sym (on-pool nr place (handed s t) (spanAt n) (textAt n) (span-to-text nr place) q)))
+  by-answer b x (refuse nr place) e q p = absurd (never (e ∙ sym (carried (handed s t) _ _ nr place (λ w. span-to-text nr place (w .pool)) q)))
 
   pub a-part : (b : Bool) (x : Span) (o : Reply) → accept b ≡ lookup s t (textAt n) → x ≡ spanIn (lookup s t (spanAt n)) → o ≡ spanValues x → o ≡ numbers spanValues (lookup s t (spanAt n))
   a-part b x o e p q = q ∙ by-answer b x (lookup s t (spanAt n)) e refl p

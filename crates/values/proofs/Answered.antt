@@ -8,10 +8,10 @@ use lib.Dec.{eqb}
 use borrow.Author.Tests.{ne-eqb}
 use Rattle.reads.specs.Answer.{accept}
 use Rattle.reads.specs.Bytes.{num4, num8}
+use Rattle.reads.proofs.Leaves.{Bytes}
 use Rattle.text.specs.Text.{isText}
 use Rattle.pool.specs.Kinds as kind
 use Rattle.pool.specs.Pool.{Whole, slots}
-use Rattle.pool.proofs.Room.{Bytes}
 use Rattle.slot.specs.Slots.{cell, tagOf, field, bytesOf}
 use Rattle.handed.specs.Handed.{handed, lookup}
 use Rattle.handed.proofs.Handed.{its-cells}

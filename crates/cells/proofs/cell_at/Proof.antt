@@ -6,7 +6,7 @@ use Rattle.cells.proofs.cell_at.Statement.{statement}
 use Rattle.cells.proofs.cell_at.Tie as tie
 use Rattle.cells.proofs.cell_at.Reads as reads
 use Rattle.cells.proofs.cell_at.Lts as lts
-use Rattle.cells.proofs.join4.Reads as join4-reads
+use Rattle.reads.proofs.join4.Reads as join4-reads
 use Rattle.reads.proofs.pair_at.Reads as pair-at-reads
 
 returns : tie.Need-returns

@@ -6,7 +6,7 @@ use mathlib.Core.List.{List, _++_}
 use lib.ListN.{length, set, drop, replicate, length-set}
 use borrow.Author.Needs.{needs}
 use borrow.Author.Fill.{fill-more}
-use Rattle.cells.proofs.Cells.{filled}
+use Rattle.reads.proofs.Tables.{filled}
 use Rattle.cells.proofs.clear_bytes.Statement.{statement}
 use Rattle.cells.proofs.clear_bytes.Tie as tie
 use Rattle.cells.proofs.clear_bytes.Reads as reads

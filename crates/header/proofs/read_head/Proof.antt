@@ -2,7 +2,7 @@
 use native.Mathlib.Omega.{arith}
 use Rattle.reads.specs.Promise.{reading2}
 use Rattle.reads.proofs.Answers.{got}
-use Rattle.attributes.proofs.Frames.{u2-in}
+use Rattle.reads.proofs.Leaves.{u2-in}
 use borrow.Author.Needs.{needs}
 use Rattle.header.specs.Header.{headAt}
 use Rattle.header.proofs.read_head.Statement.{statement}

@@ -1,13 +1,13 @@
 -- `header::read_interfaces` meets its contract. Assumes nothing.
 use borrow.Author.Needs.{needs}
 use native.Mathlib.Omega.{arith}
-use mathlib.Core.Path.{_≡_, sym, _∙_, ap}
+use mathlib.Core.Path.{_∙_}
 use Prim.Native.Nat.{_+_}
 use lib.ListN.{length}
 use Rattle.reads.specs.Promise.{reading2}
 use Rattle.reads.proofs.Answers.{got}
 use Rattle.pool.specs.Pool.{seen}
-use Rattle.attributes.proofs.Frames.{u2-in}
+use Rattle.reads.proofs.Leaves.{u2-in}
 use Rattle.header.proofs.Listing.{interface-in, Sofar, begin, turn, stopped, finished, no-count, listed, not-listed}
 use Rattle.header.proofs.read_interfaces.Statement.{statement}
 use Rattle.header.proofs.read_interfaces.Tie as tie
