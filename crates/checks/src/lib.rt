@@ -206,13 +206,21 @@ fn check_all_entries(file: &[u8], major: u16, table: &[u32], slots: usize) -> Ch
     CheckAnswer::Fine
 }
 
-// The pool's checks over the first slots of a table: references, then kinds and texts.
+// The pool's checks over the first slots of a table: references, then kinds and texts. Entries that all keep their rules have good
+// references (an entry of an allowed kind is a slot, and never its own), so these are looked at only where a rule is broken, since
+// their refusals come first.
 pub fn check_pool(file: &[u8], major: u16, table: &[u32], slots: usize) -> CheckAnswer
     ensures { λ r. ⌜ Is readingCheck (checked (seen (now (file .entry)) major (now (table .entry)) slots)) r ⌝ }
 {
+    let rules = match check_all_entries(file, major, table, slots) {
+        CheckAnswer::Fine => {
+            return CheckAnswer::Fine;
+        }
+        CheckAnswer::Refused(r) => r,
+    };
     match check_all_references(file, major, table, slots) {
         CheckAnswer::Refused(r) => CheckAnswer::Refused(r),
-        CheckAnswer::Fine => check_all_entries(file, major, table, slots),
+        CheckAnswer::Fine => CheckAnswer::Refused(rules),
     }
 }
 

@@ -30,7 +30,7 @@ fn dimensions(s: &[u8]) -> usize
 fn class_length(s: &[u8]) -> usize
     ensures { λ r. ⌜ r ≡ classLength (now (s .entry)) ⌝ }
 {
-    let w = text::walk_name(s);
+    let w = ascii::walk_name(s);
     let at = w.at;
     if !stands_at(s, at, b';') {
         return 0;

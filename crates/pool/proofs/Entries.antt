@@ -1,5 +1,5 @@
 -- What an entry, a slot and a header that were read say of the file. Assumes nothing.
-use mathlib.Core.Path.{_≡_, refl, ap}
+use mathlib.Core.Path.{_≡_, refl, ap, sym}
 use mathlib.Core.Bool.{Bool, true, false}
 use mathlib.Core.List.{List}
 use Prim.Native.Nat.{ℕ, zero, suc, _+_, _≤_, _<_}
@@ -8,22 +8,38 @@ use lib.ListN.{length}
 use lib.Dec.{leb, ltb}
 use borrow.Author.Tests.{leb-true, ltb-true}
 use Rattle.reads.specs.Answer.{Answer, accept, refuse, _>>=_, require}
-use Rattle.reads.specs.Bytes.{u1}
+use Rattle.reads.specs.Bytes.{num1, num2, u1, u2}
+pub use Rattle.reads.proofs.Answers.{same}
 use Rattle.reads.proofs.Answers.{first, held}
-use Rattle.reads.proofs.Leaves.{u1-in}
+use Rattle.reads.proofs.Leaves.{fits, u1-in}
 use Rattle.pool.specs.declared.Entry.{Entry}
 use Rattle.pool.specs.declared.Slot.{Slot}
 use Rattle.pool.specs.declared.Header.{Header}
+use Rattle.pool.specs.Rows.{first as width, rowOf}
 use Rattle.pool.specs.Pool.{entryAt, slotAt, headerOf}
-
--- what is accepted is one value
-pub same : {A : Type 0} {a b : A} → accept a ≡ accept b → a ≡ b
-same e = cc
 
 -- its tag byte stands in the file
 pub entry-in : (s : List ℕ) (major at : ℕ) (e : Entry) → accept e ≡ entryAt s major at → at + 1 ≤ length s
 unfolding entryAt
 entry-in s major at e h = let t = first (u1 s at) _ e h in u1-in s at (t .0) (t .1)
+
+-- the first read of a Utf8 and of a handle, where it was found in the file
+module _ (s : List ℕ) (b t : ℕ) (h : b + width (rowOf t) ≤ length s) where
+  pub utf8-fits : t ≡ 1 → b + 2 ≤ length s
+  unfolding rowOf
+  utf8-fits e = rw e at h
+
+  pub handle-fits : t ≡ 15 → b + 1 ≤ length s
+  unfolding rowOf
+  handle-fits e = rw e at h
+
+  pub utf8-there : t ≡ 1 → u2 s b ≡ accept (num2 s b)
+  unfolding u2
+  utf8-there e = sym (fits _ s b 2 (utf8-fits e))
+
+  pub handle-there : t ≡ 15 → u1 s b ≡ accept (num1 s b)
+  unfolding u1
+  handle-there e = sym (fits _ s b 1 (handle-fits e))
 
 -- it has its cell
 pub slot-in : (s : List ℕ) (major room n : ℕ) (owed : Bool) (at : ℕ) (e : Slot) → accept e ≡ slotAt s major room n owed at → n < room

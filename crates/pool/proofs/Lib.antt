@@ -4,3 +4,5 @@ pub mod Slots
 pub mod Room
 pub mod Edge
 pub mod Once
+pub mod Sets
+pub mod Entered

@@ -1,15 +1,18 @@
 -- With 65,536 cells no reading is refused for want of one, and none makes more slots. Assumes nothing.
-use mathlib.Core.Path.{_≡_, refl, ap, sym, _∙_}
-use mathlib.Core.Bool.{Bool, true, false, not, _&&_, cond}
+use mathlib.Core.Path.{_≡_, refl, ap, sym}
+use mathlib.Core.Bool.{Bool, true, false, _&&_, cond}
 use mathlib.Core.List.{List, [], _∷_, _++_}
-use Prim.Native.Nat.{ℕ, zero, suc, _+_, _*_, _-_, _≤_, _<_}
+use Prim.Native.Nat.{ℕ, zero, suc, _+_, _-_, _≤_, _<_}
 use native.Mathlib.Omega.{arith}
-use lib.ListN.{length, getD, length-append}
-use lib.Dec.{leb, ltb, eqb}
+use lib.ListN.{length, getD}
+use lib.Dec.{leb, eqb}
 use borrow.Author.Tests.{lt-ltb, ne-eqb}
 use Rattle.reads.specs.Answer.{Answer, Check, accept, refuse, _>>=_, require, each}
-use Rattle.reads.specs.Bytes.{num1, num2, within, u1, u2, u4, skipped}
+use Rattle.reads.specs.Bytes.{num2, within, u1, u2, u4, skipped}
 use Rattle.reads.proofs.Answers.{never}
+pub use Rattle.reads.proofs.Leaves.{Bytes}
+use Rattle.reads.proofs.Leaves.{pair-below}
+use Rattle.reads.proofs.Tables.{longer}
 use Rattle.pool.specs.declared.Header.{Header}
 use Rattle.pool.specs.Kinds as kind
 use Rattle.pool.specs.Rows.{since, first as width, second, rowOf}
@@ -112,15 +115,12 @@ module _ (s : List ℕ) (major room : ℕ) where
   unfolding slotAt
   slot-5 n owed at h = rw (lt-ltb n room h) (pick owed _ _ (ok _) (then (entryAt s major at) _ (entry-5 s major at) (λ _ _. ok _)))
 
-  more : (cells : List ℕ) (x : ℕ) → length (cells ++ x ∷ []) ≡ length cells + 1
-  more cells x = simp length-append
-
   entries-5 : (k : ℕ) (owed : Bool) (cells : List ℕ) (at : ℕ) → length cells + k < room → Not5 (entries k owed s major room cells at)
   unfolding entries
   entries-5 zero false cells at h = ok _
   entries-5 zero true cells at h = rw (lt-ltb (length cells) room (omega arith)) (ok _)
   entries-5 (suc k) owed cells at h =
-      then (slotAt s major room (length cells) owed at) _ (slot-5 (length cells) owed at (omega arith)) (λ e _. entries-5 k (e .wide) (cells ++ e .cell ∷ []) (e .next) (omega (arith, more cells (e .cell))))
+      then (slotAt s major room (length cells) owed at) _ (slot-5 (length cells) owed at (omega arith)) (λ e _. entries-5 k (e .wide) (cells ++ e .cell ∷ []) (e .next) (omega (arith, longer cells (e .cell))))
 
   entries-5-all : (count : ℕ) → count < room → 1 < room → Not5 (allEntries s major count room)
   unfolding allEntries
@@ -128,21 +128,14 @@ module _ (s : List ℕ) (major room : ℕ) where
 
 -- ---- the count is below 65,536
 
--- a file is a list of bytes
-abbrev pub Bytes : List ℕ → Type 0
-Bytes s = (i : ℕ) → num1 s i < 256
-
 made-few : (count : ℕ) (w : Bool) → count < 65536 → made count w ≤ 65536
 made-few zero w h = omega arith
 made-few (suc c) true h = rw (ne-eqb (suc c) 0 (λ z. omega arith)) (omega arith)
 made-few (suc c) false h = rw (ne-eqb (suc c) 0 (λ z. omega arith)) (omega arith)
 
 module _ (s : List ℕ) (b : Bytes s) where
-  pair-below : (at : ℕ) → num2 s at < 65536
-  pair-below at = omega (arith, b at, b (at + 1))
-
   count-below : (h : Header) → accept h ≡ headerOf s → h .count < 65536
-  count-below h e = omega (arith, ap (λ (x : Header). x .count) (header-is s h e), pair-below 8)
+  count-below h e = omega (arith, ap (λ (x : Header). x .count) (header-is s h e), pair-below s b 8)
 
   pub entries-never-5 : Not5 (readPool s 65536)
   unfolding readPool
@@ -156,4 +149,4 @@ module _ (s : List ℕ) (b : Bytes s) where
 
   -- an accepted reading makes at most 65,536 slots
   pub few-read : (room : ℕ) (w : Whole) → accept w ≡ readPool s room → slots (w .pool) ≤ 65536
-  few-read room w e = rw (slots-made s room w e) (made-few (num2 s 8) (wideAt s (getD (w .pool .cells) (num2 s 8 - 1) 0)) (pair-below 8))
+  few-read room w e = rw (slots-made s room w e) (made-few (num2 s 8) (wideAt s (getD (w .pool .cells) (num2 s 8 - 1) 0)) (pair-below s b 8))

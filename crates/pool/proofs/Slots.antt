@@ -4,20 +4,21 @@ use mathlib.Core.Bool.{Bool, true, false, not, _&&_, cond}
 use mathlib.Core.List.{List, [], _∷_, _++_}
 use Prim.Native.Nat.{ℕ, zero, suc, _+_, _-_, _≤_, _<_}
 use native.Mathlib.Omega.{arith}
-use lib.ListN.{length, getD, length-append, List·getD-append}
+use lib.ListN.{length, getD, List·getD-append}
 use lib.Seq.{getD-at}
 use lib.Dec.{leb, ltb, eqb}
-use borrow.Author.Tests.{ltb-true, ne-eqb, eq-eqb}
-use Rattle.reads.specs.Answer.{Answer, accept, refuse, _>>=_, require}
+use borrow.Author.Tests.{ltb-true, ne-eqb}
+use Rattle.reads.specs.Answer.{accept, _>>=_}
 use Rattle.reads.specs.Bytes.{num1, num2, u1, u2, u4, skipped}
-use Rattle.reads.proofs.Answers.{first, held}
-use Rattle.reads.proofs.Leaves.{inside, skipped-in}
+use Rattle.reads.proofs.Answers.{same, first, held}
+use Rattle.reads.proofs.Leaves.{u1-is, u2-is, skipped-in}
+use Rattle.reads.proofs.Tables.{longer}
 use Rattle.pool.specs.declared.Entry.{Entry}
 use Rattle.pool.specs.declared.Slot.{Slot}
 use Rattle.pool.specs.declared.Header.{Header}
 use Rattle.pool.specs.Rows.{since, first as width, second, rowOf}
-use Rattle.pool.specs.Pool.{Read, Pool, Whole, secondWidth, wide, entryAt, slotAt, entries, allEntries, headerOf, wholeOf, readPool, slots}
-use Rattle.pool.proofs.Entries.{InFile, same, slot-in, cell-in}
+use Rattle.pool.specs.Pool.{Read, Whole, secondWidth, wide, entryAt, slotAt, entries, allEntries, headerOf, wholeOf, readPool, slots}
+use Rattle.pool.proofs.Entries.{InFile, slot-in, cell-in}
 
 -- whether a Long or a Double stands at a cell; 0 is no entry
 abbrev pub wideAt : List ℕ → ℕ → Bool
@@ -28,10 +29,6 @@ abbrev pub made : ℕ → Bool → ℕ
 made count wide-last = cond (eqb count 0) 1 (cond wide-last (count + 1) count)
 
 -- ---- one entry and one slot
-
-pub u1-is : (s : List ℕ) (at v : ℕ) → accept v ≡ u1 s at → v ≡ num1 s at
-unfolding u1
-u1-is s at v e = let h = inside s at 1 _ v e .1 in cc
 
 module _ (s : List ℕ) (major : ℕ) where
   -- its tag says whether it is wide, and it ends after it began
@@ -61,12 +58,8 @@ module _ (s : List ℕ) (major : ℕ) where
 -- ---- all slots
 
 -- one more cell at the end
-module _ (cells : List ℕ) (x : ℕ) where
-  more : length (cells ++ x ∷ []) ≡ length cells + 1
-  more = simp length-append
-
-  last-cell : getD (cells ++ x ∷ []) (length (cells ++ x ∷ []) - 1) 0 ≡ x
-  last-cell = getD-at cells x [] 0 _ (omega (arith, more))
+last-cell : (cells : List ℕ) (x : ℕ) → getD (cells ++ x ∷ []) (length (cells ++ x ∷ []) - 1) 0 ≡ x
+last-cell cells x = getD-at cells x [] 0 _ (omega (arith, longer cells x))
 
 pub all-in : (s cells : List ℕ) (x : ℕ) → ((n : ℕ) → InFile s (getD cells n 0)) → InFile s x → (n : ℕ) → InFile s (getD (cells ++ x ∷ []) n 0)
 all-in s [] x f h zero = h
@@ -85,8 +78,8 @@ sound-more : (s : List ℕ) (room : ℕ) (cells : List ℕ) (x : ℕ) → Sound 
 sound-more s room cells x v h r = record {
   in-file = all-in s cells x (v .in-file) h;
   zero-first = List·getD-append cells (x ∷ []) 0 0 (v .some) ∙ v .zero-first;
-  some = omega (arith, more cells x, v .some);
-  fits = omega (arith, more cells x);
+  some = omega (arith, longer cells x, v .some);
+  fits = omega (arith, longer cells x);
 }
 
 module _ (s : List ℕ) (major room : ℕ) where
@@ -120,10 +113,10 @@ module _ (s : List ℕ) (major room : ℕ) where
       let g = ap (λ (x : Read). x .cells) (same (a .1)) in
       let o = v .sound .some in
       let z : length cells + 0 ≡ length cells = omega arith in
-      rw (z, g, List·getD-append cells (0 ∷ []) 0 (length cells - 1) (omega arith), ← v .last) (sound-more s room cells 0 (v .sound) (λ p. absurd (omega arith)) (ltb-true _ _ (a .0)), more cells 0)
+      rw (z, g, List·getD-append cells (0 ∷ []) 0 (length cells - 1) (omega arith), ← v .last) (sound-more s room cells 0 (v .sound) (λ p. absurd (omega arith)) (ltb-true _ _ (a .0)), longer cells 0)
   from (suc k) owed cells at r v h =
       let a = first (slotAt s major room (length cells) owed at) _ r h in
-      let m = more cells (a .0 .cell) in
+      let m = longer cells (a .0 .cell) in
       let l : length (cells ++ a .0 .cell ∷ []) + k ≡ length cells + suc k = omega arith in
       rw l at (from k (a .0 .wide) (cells ++ a .0 .cell ∷ []) (a .0 .next) r (turn cells owed at (a .0) v (a .1)) (a .2))
 
@@ -143,10 +136,6 @@ module _ (s : List ℕ) (major room : ℕ) where
       from (count - 1) false (0 ∷ []) 10 r (begin (ltb-true _ _ (a .0))) (a .1)
 
 -- ---- the header, and the pool that is read
-
-pub u2-is : (s : List ℕ) (at v : ℕ) → accept v ≡ u2 s at → v ≡ num2 s at
-unfolding u2
-u2-is s at v e = let h = inside s at 2 _ v e .1 in cc
 
 -- the numbers before the pool stand at bytes 4, 6 and 8
 pub header-is : (s : List ℕ) (h : Header) → accept h ≡ headerOf s → h ≡ record { minor = num2 s 4; major = num2 s 6; count = num2 s 8 }

@@ -5,12 +5,12 @@ use reads::Num2;
 use reads::Num4;
 use reads::Refusal;
 ghost use mathlib.Core.Path.{_≡_};
-ghost use Prim.Native.Nat.{_≤_};
+ghost use Prim.Native.Nat.{_+_, _*_, _≤_};
 ghost use lib.ListN.{length, replicate};
 ghost use Rattle.reads.specs.Answer.{mapped};
 ghost use Rattle.reads.specs.Promise.{Is, reading2};
 ghost use Rattle.reads.specs.Tables.{after};
-ghost use Rattle.pool.specs.Rows.{rowOf};
+ghost use Rattle.pool.specs.Rows.{first, rowOf};
 ghost use Rattle.pool.specs.Pool.{secondWidth, wide, entryAt, slotAt, allEntries, headerOf, readPool};
 ghost use Rattle.pool.specs.Readings.{madeOf, headOf, readingEntry, readingSlot, readingHeader, readingMade, readingPool};
 
@@ -106,20 +106,24 @@ pub fn row_of(tag: u8) -> Row
     }
 }
 
-// The width of an entry's second read: of a Utf8 what its first gives, of a handle only where its kind is known.
+// Two bytes as one number, the first the higher.
+fn join2(a: u8, b: u8) -> u16
+    ensures { λ r. ⌜ r ≡ a * 256 + b ⌝ }
+{
+    (a as u16) * 256 + (b as u16)
+}
+
+// The width of an entry's second read, after the first at b was found in the file: of a Utf8 what the first gives, of a handle only
+// where its kind is known. Neither is asked for a second time, so that a slot is short enough to become part of the loop over it.
 fn second_width(file: &[u8], b: usize, tag: u8, width: u8) -> Num2
+    requires { ⌜ b + first (rowOf tag) ≤ length (now file) ⌝ }
     ensures { λ r. ⌜ Is reading2 (secondWidth (now (file .entry)) b tag width) r ⌝ }
 {
     if tag == 1 {
-        return reads::read_u2(file, b);
+        return Num2::Got(join2(file[b], file[b + 1]));
     }
     if tag == 15 {
-        let kind = match reads::read_u1(file, b) {
-            Num1::Refused(r) => {
-                return Num2::Refused(r);
-            }
-            Num1::Got(v) => v,
-        };
+        let kind = file[b];
         if kind < 1 {
             return Num2::Refused(Refusal {
                 number: 4,

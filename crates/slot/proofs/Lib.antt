@@ -1,3 +1,4 @@
 pub mod Cells
 pub mod Bits
 pub mod Once
+pub mod Simple

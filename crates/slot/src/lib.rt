@@ -4,10 +4,11 @@ use reads::CheckAnswer;
 use reads::Refusal;
 ghost use mathlib.Core.Path.{_≡_};
 ghost use Rattle.reads.specs.Promise.{Is, readingCheck};
+ghost use Rattle.text.specs.Text.{isText};
 ghost use Rattle.pool.specs.Kinds.{has};
 ghost use Rattle.pool.specs.Pool.{seen, slots as slotsOf};
 ghost use Rattle.slot.specs.Slots.{cell, tagOf, field, bytesOf, ofKind, textAt, textOf, className, classText, typed};
-ghost use Rattle.slot.specs.Grammars.{good};
+ghost use Rattle.slot.specs.Grammars.{good, simple};
 
 // What a text must be.
 pub enum Grammar {
@@ -101,6 +102,16 @@ pub fn bytes_of<'a>(file: &'a [u8], major: u16, table: &[u32], slots: usize, m: 
     reads::part(file, c as usize + 3, n as usize)
 }
 
+// Whether bytes are text, as they are where they are plain ASCII.
+fn is_text(t: &[u8]) -> bool
+    ensures { λ r. ⌜ r ≡ isText (now (t .entry)) ⌝ }
+{
+    if ascii::is_ascii(t) {
+        return true;
+    }
+    text::is_text(t)
+}
+
 // That slot m is a Utf8 entry and text.
 pub fn check_utf8(
     file: &[u8],
@@ -118,7 +129,7 @@ pub fn check_utf8(
         }
         CheckAnswer::Fine => {}
     }
-    if text::is_text(bytes_of(file, major, table, slots, m)) {
+    if is_text(bytes_of(file, major, table, slots, m)) {
         return CheckAnswer::Fine;
     }
     CheckAnswer::Refused(Refusal { number: 9, place })
@@ -134,6 +145,19 @@ fn is_good(grammar: Grammar, t: &[u8]) -> bool
         Grammar::ModuleName => text::is_module_name(t),
         Grammar::FieldDescriptor => descriptors::is_field_descriptor(t),
         Grammar::MethodDescriptor => descriptors::is_method_descriptor(t),
+    }
+}
+
+// Whether a text is a name in plain ASCII, of the grammar: most names are, and one pass tells.
+fn is_simple(grammar: Grammar, t: &[u8]) -> bool
+    ensures { λ r. ⌜ r ≡ simple grammar (now (t .entry)) ⌝ }
+{
+    match grammar {
+        Grammar::Unqualified => ascii::is_ascii_name(t),
+        Grammar::Binary => ascii::is_ascii_binary(t),
+        Grammar::ModuleName => false,
+        Grammar::FieldDescriptor => false,
+        Grammar::MethodDescriptor => false,
     }
 }
 
@@ -157,7 +181,10 @@ pub fn check_text(
         CheckAnswer::Fine => {}
     }
     let t = bytes_of(file, major, table, slots, m);
-    if text::is_text(t) {
+    if is_simple(grammar, t) {
+        return CheckAnswer::Fine;
+    }
+    if is_text(t) {
         if is_good(grammar, t) {
             return CheckAnswer::Fine;
         }
@@ -200,7 +227,10 @@ pub fn check_class_name(
         CheckAnswer::Fine => {}
     }
     let t = bytes_of(file, major, table, slots, m);
-    if text::is_text(t) {
+    if ascii::is_ascii_binary(t) {
+        return CheckAnswer::Fine;
+    }
+    if is_text(t) {
         return judge_class_name(t, place);
     }
     CheckAnswer::Refused(Refusal { number: 9, place })

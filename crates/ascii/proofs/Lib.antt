@@ -1,0 +1,5 @@
+pub mod Chains
+pub mod Examples
+pub mod Texts
+pub mod Windows
+pub mod Words
