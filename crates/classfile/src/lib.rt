@@ -97,8 +97,8 @@ fn read_lists(
 {
     let l = match header::read_interfaces(file, major, table, slots, at, interfaces) {
         ListedAnswer::Refused(r) => {
-            members::clear_members(flags, names, types, firsts, counts);
-            members::clear_attributes(titles, bodies, lengths);
+            sorts::clear_members(flags, names, types, firsts, counts);
+            sorts::clear_attributes(titles, bodies, lengths);
             return ListsAnswer::Refused(r);
         }
         ListedAnswer::Got(l) => l,
@@ -159,8 +159,8 @@ fn read_after(
     let h = match header::read_head(file, major, table, slots, at) {
         HeadAnswer::Refused(r) => {
             reads::clear_list(interfaces);
-            members::clear_members(flags, names, types, firsts, counts);
-            members::clear_attributes(titles, bodies, lengths);
+            sorts::clear_members(flags, names, types, firsts, counts);
+            sorts::clear_attributes(titles, bodies, lengths);
             return AfterAnswer::Refused(r);
         }
         HeadAnswer::Got(h) => h,
@@ -217,8 +217,8 @@ pub fn read_class(
     let h = match checks::read_pool(file, table) {
         PoolAnswer::Refused(r) => {
             reads::clear_list(interfaces);
-            members::clear_members(flags, names, types, firsts, counts);
-            members::clear_attributes(titles, bodies, lengths);
+            sorts::clear_members(flags, names, types, firsts, counts);
+            sorts::clear_attributes(titles, bodies, lengths);
             return ClassAnswer::Refused(r);
         }
         PoolAnswer::Accepted(h) => h,

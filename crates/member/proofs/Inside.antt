@@ -1,5 +1,5 @@
 -- What a member that was judged good says of the file. Assumes nothing.
-use mathlib.Core.Path.{_≡_}
+use mathlib.Core.Path.{_≡_, refl}
 use mathlib.Core.Bool.{not}
 use mathlib.Core.List.{List}
 use Prim.Native.Nat.{ℕ, _+_, _≤_, _<_}
@@ -7,7 +7,7 @@ use native.Mathlib.Omega.{arith}
 use lib.ListN.{length}
 use lib.Dec.{ltb}
 use borrow.Author.Tests.{ltb-true}
-use Rattle.reads.specs.Answer.{accept}
+use Rattle.reads.specs.Answer.{Answer, accept, refuse, _>>=_, mapped}
 use Rattle.reads.specs.Bytes.{u2}
 use Rattle.reads.proofs.Answers.{first, held}
 use Rattle.pool.specs.Pool.{Pool}
@@ -15,6 +15,11 @@ use Rattle.attributes.proofs.Frames.{u2-in}
 use Rattle.member.specs.declared.Sort.{Sort}
 use Rattle.member.specs.declared.Member.{Member}
 use Rattle.member.specs.Member.{twice, partsAt, memberAt}
+
+-- a last line that only wraps what was read
+pub as-last : {A B : Type 0} (f : A → B) (x : Answer A) → mapped f x ≡ (x >>= λ a. accept (f a))
+as-last f (accept a) = refl
+as-last f (refuse nr place) = refl
 
 -- it has its record, and its four u2 stand in the file
 pub member-in : (k : Sort) (p : Pool) (room n at : ℕ) (names types : List ℕ) (m : Member) → accept m ≡ memberAt k p room n at names types → (n < room) × (at + 8 ≤ length (p .file))

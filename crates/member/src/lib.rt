@@ -5,8 +5,11 @@ use reads::Refusal;
 ghost use mathlib.Core.Path.{_≡_};
 ghost use mathlib.Core.Bool.{_&&_};
 ghost use Prim.Native.Nat.{_+_, _<_};
+ghost use Rattle.reads.specs.Answer.{mapped};
+ghost use Rattle.reads.specs.Bytes.{u2};
 ghost use Rattle.reads.specs.Promise.{Is, readingCheck};
 ghost use Rattle.pool.specs.Pool.{seen};
+ghost use Rattle.slot.specs.Slots.{bytesOf};
 ghost use Rattle.member.specs.Member.{masked, goodName, goodType, goodText, shape, goodShape, alike, twice, textIn, partsAt, memberAt};
 ghost use Rattle.member.specs.Readings.{readingMember};
 
@@ -107,31 +110,43 @@ fn is_good_shape(
     true
 }
 
-// Whether two Utf8 entries have the same bytes.
-fn is_alike(file: &[u8], major: u16, table: &[u32], slots: usize, m: usize, n: usize) -> bool
-    ensures { λ r. ⌜ r ≡ alike (seen (now (file .entry)) major (now (table .entry)) slots) m n ⌝ }
+// Whether slot m, a Utf8 entry, has the bytes of slot n, which are given: the same slot has.
+fn is_alike(
+    file: &[u8],
+    major: u16,
+    table: &[u32],
+    slots: usize,
+    mine: &[u8],
+    n: u16,
+    m: u16,
+) -> bool
+    requires { ⌜ now mine ≡ bytesOf (seen (now file) major (now table) slots) n ⌝ }
+    ensures { λ r. ⌜ r ≡ alike (seen (now (file .entry)) major (now (table .entry)) slots) n m ⌝ }
 {
-    check::same(
-        slot::bytes_of(file, major, table, slots, m),
-        slot::bytes_of(file, major, table, slots, n),
-    )
+    if n == m {
+        return true;
+    }
+    check::same(mine, slot::bytes_of(file, major, table, slots, m as usize))
 }
 
-// Whether two members agree in name and descriptor.
+// Whether two members agree in name and descriptor; the bytes of the one's are given.
 fn is_same(
     file: &[u8],
     major: u16,
     table: &[u32],
     slots: usize,
+    mine: &[u8],
+    shape: &[u8],
     name: u16,
     descriptor: u16,
     m: u16,
     t: u16,
 ) -> bool
+    requires { ⌜ (now mine ≡ bytesOf (seen (now file) major (now table) slots) name) × (now shape ≡ bytesOf (seen (now file) major (now table) slots) descriptor) ⌝ }
     ensures { λ r. ⌜ r ≡ alike (seen (now (file .entry)) major (now (table .entry)) slots) name m && alike (seen (now (file .entry)) major (now (table .entry)) slots) descriptor t ⌝ }
 {
-    is_alike(file, major, table, slots, name as usize, m as usize)
-        && is_alike(file, major, table, slots, descriptor as usize, t as usize)
+    is_alike(file, major, table, slots, mine, name, m)
+        && is_alike(file, major, table, slots, shape, descriptor, t)
 }
 
 // Whether a member of that name and descriptor is among those whose names and descriptors are given.
@@ -147,6 +162,8 @@ fn is_twice(
 ) -> bool
     ensures { λ r. ⌜ r ≡ twice (seen (now (file .entry)) major (now (table .entry)) slots) name descriptor (now (names .entry)) (now (types .entry)) ⌝ }
 {
+    let mine = slot::bytes_of(file, major, table, slots, name as usize);
+    let shape = slot::bytes_of(file, major, table, slots, descriptor as usize);
     let mut i = 0;
     while i < names.len() {
         if types.len() <= i {
@@ -154,7 +171,18 @@ fn is_twice(
         }
         let m = names[i];
         let t = types[i];
-        if is_same(file, major, table, slots, name, descriptor, m, t) {
+        if is_same(
+            file,
+            major,
+            table,
+            slots,
+            mine,
+            shape,
+            name,
+            descriptor,
+            m,
+            t,
+        ) {
             return true;
         }
         i += 1;
@@ -195,31 +223,55 @@ fn check_parts(
     table: &[u32],
     slots: usize,
     at: usize,
-    name: usize,
-    descriptor: usize,
+    name: u16,
+    descriptor: u16,
 ) -> CheckAnswer
     requires { ⌜ at + 4 < 18446744073709551616 ⌝ }
     ensures { λ r. ⌜ Is readingCheck (partsAt sort (seen (now (file .entry)) major (now (table .entry)) slots) at name descriptor) r ⌝ }
 {
-    match check_text(sort, 10, file, major, table, slots, at + 2, name) {
+    let m = name as usize;
+    let n = descriptor as usize;
+    match check_text(sort, 10, file, major, table, slots, at + 2, m) {
         CheckAnswer::Refused(r) => {
             return CheckAnswer::Refused(r);
         }
         CheckAnswer::Fine => {}
     }
-    match check_text(sort, 11, file, major, table, slots, at + 4, descriptor) {
+    match check_text(sort, 11, file, major, table, slots, at + 4, n) {
         CheckAnswer::Refused(r) => {
             return CheckAnswer::Refused(r);
         }
         CheckAnswer::Fine => {}
     }
-    if is_good_shape(sort, file, major, table, slots, name, descriptor) {
+    if is_good_shape(sort, file, major, table, slots, m, n) {
         return CheckAnswer::Fine;
     }
     CheckAnswer::Refused(Refusal {
         number: 15,
         place: at,
     })
+}
+
+// A member of these flags, name and descriptor: its flags masked, its number of attributes read at a byte of the file.
+fn counted_at(
+    method: bool,
+    file: &[u8],
+    at: usize,
+    flags: u16,
+    name: u16,
+    descriptor: u16,
+) -> MemberAnswer
+    ensures { λ r. ⌜ Is readingMember (mapped (λ k. record { flags = masked method flags; name = name; descriptor = descriptor; count = k }) (u2 (now (file .entry)) at)) r ⌝ }
+{
+    match reads::read_u2(file, at) {
+        Num2::Refused(r) => MemberAnswer::Refused(r),
+        Num2::Got(count) => MemberAnswer::Got(Member {
+            flags: mask(method, flags),
+            name,
+            descriptor,
+            count,
+        }),
+    }
 }
 
 // The member at a byte of the file, up to its attributes; it becomes record n. The names and descriptors are those of the members of
@@ -256,16 +308,7 @@ pub fn member_at(
         }
         Num2::Got(v) => v,
     };
-    match check_parts(
-        sort,
-        file,
-        major,
-        table,
-        slots,
-        at,
-        name as usize,
-        descriptor as usize,
-    ) {
+    match check_parts(sort, file, major, table, slots, at, name, descriptor) {
         CheckAnswer::Refused(r) => {
             return MemberAnswer::Refused(r);
         }
@@ -283,13 +326,5 @@ pub fn member_at(
             place: at,
         });
     }
-    match reads::read_u2(file, at + 6) {
-        Num2::Refused(r) => MemberAnswer::Refused(r),
-        Num2::Got(count) => MemberAnswer::Got(Member {
-            flags: mask(sort.method, flags),
-            name,
-            descriptor,
-            count,
-        }),
-    }
+    counted_at(sort.method, file, at + 6, flags, name, descriptor)
 }

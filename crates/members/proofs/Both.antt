@@ -1,16 +1,16 @@
 -- Fields, then methods, into columns of zeros. Assumes nothing.
 use mathlib.Core.Path.{_≡_, refl, ap, sym, subst, _∙_}
-use mathlib.Core.Bool.{Bool}
+use mathlib.Core.Bool.{Bool, true, false}
 use mathlib.Core.List.{List, [], _∷_, _++_, map, append-assoc}
-use Prim.Native.Nat.{ℕ, zero, suc, _+_, _≤_, _<_, min}
+use Prim.Native.Nat.{ℕ, zero, suc, _+_, _≤_, min}
 use native.Mathlib.Omega.{arith}
 use native.Mathlib.Nat.{min-le-left, min-le-right}
 use lib.ListN.{length, replicate, length-append, length-replicate}
-use borrow.Author.Tests.{le-leb, lt-leb}
-use Rattle.reads.specs.Answer.{Answer, accept, refuse, _>>=_, mapped}
+use lib.Dec.{leb}
+use Rattle.reads.specs.Answer.{Answer, accept, refuse, _>>=_, mapped, require}
 use Rattle.reads.specs.Bytes.{u2}
 use Rattle.reads.specs.Tables.{padded, after}
-use Rattle.reads.proofs.Answers.{first}
+use Rattle.reads.proofs.Answers.{first, held}
 use Rattle.reads.proofs.Tables.{padded-none}
 use Rattle.pool.specs.Pool.{Pool}
 use Rattle.attributes.specs.declared.Attribute.{Attribute}
@@ -19,12 +19,16 @@ use Rattle.attributes.specs.Attributes.{roomOf}
 use Rattle.attributes.proofs.Tiled.{made}
 use Rattle.member.specs.declared.Sort.{Sort}
 use Rattle.header.proofs.Placed.{whole-of, refused-of, roomy, placed-padded}
-use Rattle.members.specs.declared.Sorted.{Sorted}
-use Rattle.members.specs.Members.{Whole, Reached, Both, wholeAt, reach, membersOf, sortAt, aField, aMethod, bothAt, members}
-use Rattle.members.specs.Readings.{sortedOf, countedOf}
-use Rattle.members.specs.Lent.{Columns, memberRoom, gathered, ofEach, each-column, afterMany, filled, zeros, Ready, Zeroed}
-use Rattle.members.proofs.Whole.{whole-in}
-use Rattle.members.proofs.Turns.{Long, long-placed, long-refl, same-limit, ready-on, map-length}
+use Rattle.sorts.specs.declared.Sorted.{Sorted}
+use Rattle.sorts.specs.Sorts.{Whole, Reached, wholeAt, reach, begunAt, membersOf, sortAt, sortIn}
+use Rattle.sorts.specs.Lent.{Columns, memberRoom, gathered, ofEach, afterMany, zeros}
+use Rattle.sorts.specs.Readings.{sortedOf}
+use Rattle.sorts.proofs.Whole.{whole-in}
+use Rattle.sorts.proofs.Turns.{Long, long-placed, long-refl, same-limit, zeros-long, map-length, sort-in}
+use Rattle.members.specs.declared.Counted.{Counted}
+use Rattle.members.specs.Members.{Both, aField, aMethod, bothAt, members}
+use Rattle.members.specs.Readings.{countedOf}
+use Rattle.members.specs.Lent.{filled}
 
 -- ---- what is reached after members in order
 
@@ -53,14 +57,14 @@ module _ (k : Sort) (p : Pool) (room limit : ℕ) where
 
   -- from their number on
   pub record SortedIn (n at used : ℕ) (m : Many Whole Reached) : Type 0 where
-    pub ends : Ended limit (record { at = at; used = used; names = []; types = [] }) m
+    pub ends : Ended limit (begunAt at used) m
     pub fits : n ≤ room → n + length (m .list) ≤ room
 
   pub sorted-in : (n at used : ℕ) (m : Many Whole Reached) → accept m ≡ sortAt k p room limit n at used → SortedIn n (at + 2) used m
   unfolding sortAt
   sorted-in n at used m e =
       let t = first (u2 (p .file) at) _ m e in
-      let s : Reached = record { at = at + 2; used = used; names = []; types = [] } in
+      let s = begunAt (at + 2) used in
       let l = made (wholeAt k p room limit) reach (t .0) n s m (t .2) in
       record {
         ends = ended (t .0) n s m (t .2);
@@ -107,43 +111,65 @@ map-append f (r ∷ a) b = ap (λ (l : List ℕ). f r ∷ l) (map-append f a b)
 
 -- ---- the code's steps
 
-pub zeros-long : (c d : Columns) → Long d c → zeros d ≡ zeros c
-zeros-long c d l = λ i. record {
-  flags = replicate (l .of-flags i) 0;
-  names = replicate (l .of-names i) 0;
-  types = replicate (l .of-types i) 0;
-  firsts = replicate (l .of-firsts i) 0;
-  counts = replicate (l .of-counts i) 0;
-  attributes = replicate (l .of-attributes i) 0;
-  bodies = replicate (l .of-bodies i) 0;
-  lengths = replicate (l .of-lengths i) 0;
-}
+-- a part of a part of an answer
+pub onto : {A B C : Type 0} (f : A → B) (h : B → C) (x : Answer A) (y : Answer B) → y ≡ mapped f x → mapped h y ≡ mapped (λ a. h (f a)) x
+onto f h (accept a) y e = ap (mapped h) e
+onto f h (refuse nr place) y e = ap (mapped h) e
 
-module _ (interface : Bool) (p : Pool) (room at : ℕ) (c : Columns) (z : Zeroed (p .file) room c) where
+-- a refusal past the same test
+past : {A B : Type 0} (t : Bool) (x : Answer A) (y : Answer B) (nr place : ℕ) → (refuse nr place ≡ x → refuse nr place ≡ y) → refuse nr place ≡ (require t 1 0 >>= λ _. x) → refuse nr place ≡ (require t 1 0 >>= λ _. y)
+past true x y nr place f e = f e
+past false x y nr place f e = cc
+
+same-room : (c d : Columns) → Long c d → memberRoom c ≡ memberRoom d
+same-room c d l = λ i. min (min (min (l .of-flags i) (l .of-names i)) (min (l .of-types i) (l .of-firsts i))) (l .of-counts i)
+
+module _ (interface : Bool) (p : Pool) (at : ℕ) (c : Columns) (zero : c ≡ zeros c) (k : Sort) (e₀ : k ≡ aField) where
+  abbrev room : ℕ
+  room = memberRoom c
+
   abbrev limit : ℕ
   limit = roomOf (c .attributes) (c .bodies) (c .lengths)
 
   abbrev fields : Answer (Many Whole Reached)
   fields = sortAt aField p room limit 0 at 0
 
-  abbrev both : Answer Both
-  both = bothAt interface p room limit at
+  abbrev short : Bool
+  short = leb (length (p .file)) 16777216
 
-  pub begun : Ready (p .file) room 0 0 at 0 c
-  begun = ready-on (p .file) room 0 0 0 0 at 0 0 c c (z .ready) (long-refl c) (omega arith) (omega arith) (omega arith)
+  -- what the call for fields answers by
+  abbrev pub asked : Answer (Many Whole Reached)
+  asked = sortIn k p room limit 0 at 0
 
-  pub no-fields : (nr place : ℕ) (d : Columns) → refuse nr place ≡ mapped sortedOf fields → d ≡ afterMany c 0 0 fields → (refuse nr place ≡ mapped countedOf both) × (d ≡ filled c both)
+  abbrev pub whole : Answer Both
+  whole = members interface p room limit at
+
+  begun : asked ≡ (require short 1 0 >>= λ _. fields)
+  begun = ap (λ (j : Sort). sortIn j p room limit 0 at 0) e₀ ∙ sort-in aField p room limit 0 at 0 (omega arith) (omega arith)
+
+  none : (nr place : ℕ) → refuse nr place ≡ fields → refuse nr place ≡ bothAt interface p room limit at
   unfolding bothAt
-  no-fields nr place d e h =
-      let g = refused-of sortedOf fields nr place e in
-      rw (← g) (refl, h ∙ ap (afterMany c 0 0) (sym g))
+  none nr place g = rw (← g)
 
-  module _ (f : Sorted) (d : Columns) (e : accept f ≡ mapped sortedOf fields) (h : d ≡ afterMany c 0 0 fields) where
-    abbrev got-fields : (m : Many Whole Reached) × (accept m ≡ fields) × (sortedOf m ≡ f)
-    got-fields = whole-of sortedOf fields f e
+  no-whole : (nr place : ℕ) → refuse nr place ≡ asked → refuse nr place ≡ whole
+  unfolding members
+  no-whole nr place g = past short fields (bothAt interface p room limit at) nr place (none nr place) (g ∙ begun)
+
+  pub no-fields : (nr place : ℕ) (d : Columns) → refuse nr place ≡ mapped sortedOf asked → d ≡ afterMany c 0 0 asked → (refuse nr place ≡ mapped countedOf whole) × (d ≡ filled c whole)
+  no-fields nr place d e h =
+      let g = refused-of sortedOf asked nr place e in
+      let w = no-whole nr place g in
+      rw (← w) (refl, h ∙ ap (afterMany c 0 0) (sym g))
+
+  module _ (f : Sorted) (d : Columns) (e : accept f ≡ mapped sortedOf asked) (h : d ≡ afterMany c 0 0 asked) where
+    abbrev got-fields : (m : Many Whole Reached) × (accept m ≡ asked) × (sortedOf m ≡ f)
+    got-fields = whole-of sortedOf asked f e
 
     abbrev fs : Many Whole Reached
     fs = got-fields .0
+
+    not-long : (short ≡ true) × (accept fs ≡ fields)
+    not-long = held short 1 0 (λ _. fields) fs (got-fields .1 ∙ begun)
 
     as-placed : d ≡ afterMany c 0 0 (accept fs)
     as-placed = h ∙ ap (afterMany c 0 0) (sym (got-fields .1))
@@ -152,49 +178,42 @@ module _ (interface : Bool) (p : Pool) (room at : ℕ) (c : Columns) (z : Zeroed
     long = subst (λ (x : Columns). Long x c) (sym as-placed) (long-placed c c 0 0 (λ g. map g (fs .list)) (λ g. gathered (ofEach g) (fs .list)) (long-refl c))
 
     inside : SortedIn aField p room limit 0 (at + 2) 0 fs
-    inside = sorted-in aField p room limit 0 at 0 fs (got-fields .1)
+    inside = sorted-in aField p room limit 0 at 0 fs (not-long .1)
 
-    pub ready-again : Ready (p .file) room (f .count) (f .count) (f .at) (f .used) d
-    ready-again =
-        subst (λ (x : Sorted). Ready (p .file) room (x .count) (x .count) (x .at) (x .used) d) (got-fields .2)
-        (record {
-          short = z .short;
-          begun = omega arith;
-          roomy = omega (arith, inside .fits (omega arith));
-          behind = inside .ends .behind (omega arith);
-          long-flags = omega (arith, z .ready .long-flags, long .of-flags);
-          long-names = omega (arith, z .ready .long-names, long .of-names);
-          long-types = omega (arith, z .ready .long-types, long .of-types);
-          long-firsts = omega (arith, z .ready .long-firsts, long .of-firsts);
-          long-counts = omega (arith, z .ready .long-counts, long .of-counts);
-        })
-
-    abbrev methods : Sorted → Answer (Many Whole Reached)
-    methods x = sortAt (aMethod interface) p room (roomOf (d .attributes) (d .bodies) (d .lengths)) (x .count) (x .at) (x .used)
+    -- what the call for methods answers by
+    abbrev pub methods : Sorted → Answer (Many Whole Reached)
+    methods x = sortIn (aMethod interface) p (memberRoom d) (roomOf (d .attributes) (d .bodies) (d .lengths)) (x .count) (x .at) (x .used)
 
     abbrev theirs : Answer (Many Whole Reached)
     theirs = sortAt (aMethod interface) p room limit (length (fs .list)) (fs .end .at) (fs .end .used)
 
+    gone-on : sortIn (aMethod interface) p room limit (length (fs .list)) (fs .end .at) (fs .end .used) ≡ theirs
+    gone-on =
+        sort-in (aMethod interface) p room limit (length (fs .list)) (fs .end .at) (fs .end .used) (omega (arith, inside .fits (omega arith))) (inside .ends .behind (omega arith))
+        ∙ ap (λ (t : Bool). require t 1 0 >>= λ _. theirs) (not-long .0)
+
     same : methods f ≡ theirs
-    same = sym (ap methods (got-fields .2)) ∙ ap (λ (l : ℕ). sortAt (aMethod interface) p room l (length (fs .list)) (fs .end .at) (fs .end .used)) (same-limit d c long)
+    same =
+        sym (ap methods (got-fields .2))
+        ∙ ap (λ (r : ℕ). sortIn (aMethod interface) p r (roomOf (d .attributes) (d .bodies) (d .lengths)) (length (fs .list)) (fs .end .at) (fs .end .used)) (same-room d c long)
+        ∙ ap (λ (l : ℕ). sortIn (aMethod interface) p room l (length (fs .list)) (fs .end .at) (fs .end .used)) (same-limit d c long)
+        ∙ gone-on
 
-    pub no-methods : (nr place : ℕ) (d′ : Columns) → refuse nr place ≡ mapped sortedOf (methods f) → d′ ≡ afterMany d (f .count) (f .used) (methods f) → (refuse nr place ≡ mapped countedOf both) × (d′ ≡ filled c both)
+    in-full : whole ≡ bothAt interface p room limit at
+    unfolding members
+    in-full = ap (λ (t : Bool). require t 1 0 >>= λ _. bothAt interface p room limit at) (not-long .0)
+
+    no-methods : (nr place : ℕ) → refuse nr place ≡ methods f → refuse nr place ≡ whole
     unfolding bothAt
-    no-methods nr place d′ q w =
-        let g = refused-of sortedOf (methods f) nr place q in
-        let g′ : refuse nr place ≡ theirs = g ∙ same in
-        let y : d′ ≡ zeros c = w ∙ ap (afterMany d (f .count) (f .used)) (sym g) ∙ zeros-long c d long in
-        rw (← got-fields .1, ← g′) (refl, y)
+    no-methods nr place q =
+        let g = not-long .1 in
+        let g′ : refuse nr place ≡ theirs = q ∙ same in
+        let b : refuse nr place ≡ bothAt interface p room limit at = rw (← g, ← g′) in
+        b ∙ sym in-full
 
-    module _ (g : Sorted) (d′ : Columns) (q : accept g ≡ mapped sortedOf (methods f)) (w : d′ ≡ afterMany d (f .count) (f .used) (methods f)) where
-      abbrev got-methods : (m : Many Whole Reached) × (accept m ≡ methods f) × (sortedOf m ≡ g)
-      got-methods = whole-of sortedOf (methods f) g q
-
-      abbrev ms : Many Whole Reached
-      ms = got-methods .0
-
+    module _ (ms : Many Whole Reached) (q : accept ms ≡ methods f) where
       inside-methods : SortedIn (aMethod interface) p room limit (length (fs .list)) (fs .end .at + 2) (fs .end .used) ms
-      inside-methods = sorted-in (aMethod interface) p room limit (length (fs .list)) (fs .end .at) (fs .end .used) ms (got-methods .1 ∙ same)
+      inside-methods = sorted-in (aMethod interface) p room limit (length (fs .list)) (fs .end .at) (fs .end .used) ms (q ∙ same)
 
       member-column : (x : Whole → ℕ) (t : List ℕ) → t ≡ replicate (length t) 0 → room ≤ length t
           → placed (placed t 0 (map x (fs .list))) (f .count) (map x (ms .list)) ≡ padded 0 (length t) (map x (fs .list ++ ms .list))
@@ -217,28 +236,61 @@ module _ (interface : Bool) (p : Pool) (room at : ℕ) (c : Columns) (z : Zeroed
 
       columns : afterMany (afterMany c 0 0 (accept fs)) (f .count) (f .used) (accept ms) ≡ filled c (accept (record { fields = fs .list; methods = ms .list; next = ms .end .at; used = ms .end .used }))
       columns =
+          let fn = min (length (c .flags)) (length (c .names)) in
+          let tf = min (length (c .types)) (length (c .firsts)) in
+          let h = min-le-left (min fn tf) (length (c .counts)) in
+          let a = min-le-left fn tf in
+          let b = min-le-right fn tf in
+          let room-flags : room ≤ length (c .flags) = omega (arith, h, a, min-le-left (length (c .flags)) (length (c .names))) in
+          let room-names : room ≤ length (c .names) = omega (arith, h, a, min-le-right (length (c .flags)) (length (c .names))) in
+          let room-types : room ≤ length (c .types) = omega (arith, h, b, min-le-left (length (c .types)) (length (c .firsts))) in
+          let room-firsts : room ≤ length (c .firsts) = omega (arith, h, b, min-le-right (length (c .types)) (length (c .firsts))) in
+          let room-counts : room ≤ length (c .counts) = min-le-right (min fn tf) (length (c .counts)) in
           let ab = min-le-left (min (length (c .attributes)) (length (c .bodies))) (length (c .lengths)) in
           let la : limit ≤ length (c .attributes) = omega (arith, ab, min-le-left (length (c .attributes)) (length (c .bodies))) in
           let lb : limit ≤ length (c .bodies) = omega (arith, ab, min-le-right (length (c .attributes)) (length (c .bodies))) in
           let lc : limit ≤ length (c .lengths) = min-le-right (min (length (c .attributes)) (length (c .bodies))) (length (c .lengths)) in
           λ i. record {
-            flags = member-column (λ w. w .member .flags) (c .flags) (ap (λ (x : Columns). x .flags) (z .zero)) (z .ready .long-flags) i;
-            names = member-column (λ w. w .member .name) (c .names) (ap (λ (x : Columns). x .names) (z .zero)) (z .ready .long-names) i;
-            types = member-column (λ w. w .member .descriptor) (c .types) (ap (λ (x : Columns). x .types) (z .zero)) (z .ready .long-types) i;
-            firsts = member-column (λ w. w .first) (c .firsts) (ap (λ (x : Columns). x .firsts) (z .zero)) (z .ready .long-firsts) i;
-            counts = member-column (λ w. w .member .count) (c .counts) (ap (λ (x : Columns). x .counts) (z .zero)) (z .ready .long-counts) i;
-            attributes = attribute-column (λ a. a .name) (c .attributes) (ap (λ (x : Columns). x .attributes) (z .zero)) la i;
-            bodies = attribute-column (λ a. a .start) (c .bodies) (ap (λ (x : Columns). x .bodies) (z .zero)) lb i;
-            lengths = attribute-column (λ a. a .size) (c .lengths) (ap (λ (x : Columns). x .lengths) (z .zero)) lc i;
+            flags = member-column (λ w. w .member .flags) (c .flags) (ap (λ (x : Columns). x .flags) zero) room-flags i;
+            names = member-column (λ w. w .member .name) (c .names) (ap (λ (x : Columns). x .names) zero) room-names i;
+            types = member-column (λ w. w .member .descriptor) (c .types) (ap (λ (x : Columns). x .types) zero) room-types i;
+            firsts = member-column (λ w. w .first) (c .firsts) (ap (λ (x : Columns). x .firsts) zero) room-firsts i;
+            counts = member-column (λ w. w .member .count) (c .counts) (ap (λ (x : Columns). x .counts) zero) room-counts i;
+            attributes = attribute-column (λ a. a .name) (c .attributes) (ap (λ (x : Columns). x .attributes) zero) la i;
+            bodies = attribute-column (λ a. a .start) (c .bodies) (ap (λ (x : Columns). x .bodies) zero) lb i;
+            lengths = attribute-column (λ a. a .size) (c .lengths) (ap (λ (x : Columns). x .lengths) zero) lc i;
           }
 
-      pub all-good : (accept (record { fields = f .count; methods = g .count; next = g .at; used = g .used }) ≡ mapped countedOf both) × (d′ ≡ filled c both)
+      made-whole : accept (record { fields = fs .list; methods = ms .list; next = ms .end .at; used = ms .end .used }) ≡ whole
       unfolding bothAt
-      all-good =
-          let y : d′ ≡ filled c (accept (record { fields = fs .list; methods = ms .list; next = ms .end .at; used = ms .end .used })) =
-          w ∙ ap (afterMany d (f .count) (f .used)) (sym (got-methods .1)) ∙ ap (λ (x : Columns). afterMany x (f .count) (f .used) (accept ms)) as-placed ∙ columns in
-          let v = got-methods .1 ∙ same in
-          rw (← got-fields .1, ← v) (λ i. accept (record { fields = sym (got-fields .2) i .count; methods = sym (got-methods .2) i .count; next = sym (got-methods .2) i .at; used = sym (got-methods .2) i .used }), y)
+      made-whole =
+          let g = not-long .1 in
+          let g′ : accept ms ≡ theirs = q ∙ same in
+          let b : accept (record { fields = fs .list; methods = ms .list; next = ms .end .at; used = ms .end .used }) ≡ bothAt interface p room limit at = rw (← g, ← g′) in
+          b ∙ sym in-full
+
+      all-good : afterMany d (f .count) (f .used) (accept ms) ≡ filled c whole
+      all-good = ap (λ (x : Columns). afterMany x (f .count) (f .used) (accept ms)) as-placed ∙ columns ∙ ap (filled c) made-whole
+
+    -- how many fields and methods, by what the call for methods answers
+    abbrev pub with-methods : Many Whole Reached → Counted
+    with-methods m = record { fields = f .count; methods = length (m .list); next = m .end .at; used = m .end .used }
+
+    abbrev Ends : Answer (Many Whole Reached) → Type 0
+    Ends y = (mapped with-methods y ≡ mapped countedOf whole) × (afterMany d (f .count) (f .used) y ≡ filled c whole)
+
+    ends : (y : Answer (Many Whole Reached)) → y ≡ methods f → Ends y
+    ends (accept ms) q =
+        let n : length (fs .list) ≡ f .count = ap (λ (s : Sorted). s .count) (got-fields .2) in
+        ((λ i. accept (record { fields = sym n i; methods = length (ms .list); next = ms .end .at; used = ms .end .used })) ∙ ap (mapped countedOf) (made-whole ms q), all-good ms q)
+    ends (refuse nr place) q =
+        let w = no-methods nr place q in
+        (ap (mapped countedOf) w, zeros-long c d long ∙ ap (filled c) w)
+
+    pub with-fields : (x : Answer Counted) (d′ : Columns) → x ≡ mapped with-methods (methods f) → d′ ≡ afterMany d (f .count) (f .used) (methods f) → (x ≡ mapped countedOf whole) × (d′ ≡ filled c whole)
+    with-fields x d′ a b =
+        let r = ends (methods f) refl in
+        (a ∙ r .0, b ∙ r .1)
 
 -- ---- columns that were made zero
 
@@ -266,68 +318,18 @@ filled-long c d x l = λ i. record {
   lengths = after 0 (λ (b : Both). gathered (ofEach (λ a. a .size)) (b .fields ++ b .methods)) (l .of-lengths i) x;
 }
 
--- the cleared columns, as the code has them
-pub record Cleared (c d : Columns) : Type 0 where
-  pub flags : d .flags ≡ replicate (length (c .flags)) 0
-  pub names : d .names ≡ replicate (length (c .names)) 0
-  pub types : d .types ≡ replicate (length (c .types)) 0
-  pub firsts : d .firsts ≡ replicate (length (c .firsts)) 0
-  pub counts : d .counts ≡ replicate (length (c .counts)) 0
-  pub attributes : d .attributes ≡ replicate (length (c .attributes)) 0
-  pub bodies : d .bodies ≡ replicate (length (c .bodies)) 0
-  pub lengths : d .lengths ≡ replicate (length (c .lengths)) 0
-
-module _ (c d : Columns) (v : Cleared c d) where
-  pub as-zeros : d ≡ zeros c
-  as-zeros = λ i. record { flags = v .flags i; names = v .names i; types = v .types i; firsts = v .firsts i; counts = v .counts i; attributes = v .attributes i; bodies = v .bodies i; lengths = v .lengths i }
-
+module _ (c d : Columns) (v : d ≡ zeros c) where
   long-cleared : Long d c
-  long-cleared = subst (λ (x : Columns). Long x c) (sym as-zeros) (cleared-long c)
+  long-cleared = subst (λ (x : Columns). Long x c) (sym v) (cleared-long c)
 
-  pub ready-for-all : (file : List ℕ) (room : ℕ) → length file ≤ 16777216 → room ≡ memberRoom d → Zeroed file room d
-  ready-for-all file room s e =
-      let fn = min (length (d .flags)) (length (d .names)) in
-      let tf = min (length (d .types)) (length (d .firsts)) in
-      let h = min-le-left (min fn tf) (length (d .counts)) in
-      let a = min-le-left fn tf in
-      let b = min-le-right fn tf in
-      let r : room ≤ min fn tf = omega (arith, e, h) in
-      record {
-        short = s;
-        ready = record {
-          short = s;
-          begun = omega arith;
-          roomy = omega arith;
-          behind = omega arith;
-          long-flags = omega (arith, r, a, min-le-left (length (d .flags)) (length (d .names)));
-          long-names = omega (arith, r, a, min-le-right (length (d .flags)) (length (d .names)));
-          long-types = omega (arith, r, b, min-le-left (length (d .types)) (length (d .firsts)));
-          long-firsts = omega (arith, r, b, min-le-right (length (d .types)) (length (d .firsts)));
-          long-counts = omega (arith, e, min-le-right (min fn tf) (length (d .counts)));
-        };
-        zero = as-zeros ∙ sym (zeros-long c d long-cleared);
-      }
+  pub still-zero : d ≡ zeros d
+  still-zero = v ∙ sym (zeros-long c d long-cleared)
 
-  module _ (interface : Bool) (p : Pool) (at : ℕ) where
-    abbrev pub whole : Answer Both
-    whole = members interface p (memberRoom c) (roomOf (c .attributes) (c .bodies) (c .lengths)) at
-
-    pub too-long : 16777216 < length (p .file) → (refuse 1 0 ≡ mapped countedOf whole) × (d ≡ filled c whole)
-    unfolding members
-    too-long h = simp (lt-leb _ _ h) (refl, as-zeros)
-
-    same-room : memberRoom d ≡ memberRoom c
-    same-room = let l = long-cleared in λ i. min (min (min (l .of-flags i) (l .of-names i)) (min (l .of-types i) (l .of-firsts i))) (l .of-counts i)
-
-    pub not-too-long : (room : ℕ) → room ≡ memberRoom d → length (p .file) ≤ 16777216 → bothAt interface p room (roomOf (d .attributes) (d .bodies) (d .lengths)) at ≡ whole
-    unfolding members
-    not-too-long room e h =
-        ap (λ (r : ℕ). bothAt interface p r (roomOf (d .attributes) (d .bodies) (d .lengths)) at) (e ∙ same-room)
-        ∙ ap (λ (r : ℕ). bothAt interface p (memberRoom c) r at) (same-limit d c long-cleared) ∙ simp (le-leb _ _ h)
-
-    pub at-last : {X : Type 0} (room : ℕ) (x : X) (f : Answer Both → X) (d′ : Columns) → room ≡ memberRoom d → length (p .file) ≤ 16777216
-        → x ≡ f (bothAt interface p room (roomOf (d .attributes) (d .bodies) (d .lengths)) at) → d′ ≡ filled d (bothAt interface p room (roomOf (d .attributes) (d .bodies) (d .lengths)) at)
-        → (x ≡ f whole) × (d′ ≡ filled c whole)
-    at-last room x f d′ e h a b =
-        let s = not-too-long room e h in
-        (a ∙ ap f s, b ∙ filled-long c d (bothAt interface p room (roomOf (d .attributes) (d .bodies) (d .lengths)) at) long-cleared ∙ ap (filled c) s)
+  -- what was lent says the room as what was cleared does
+  pub as-lent : (interface : Bool) (p : Pool) (at : ℕ) {X : Type 0} (f : Answer Both → X) (x : X) (d′ : Columns)
+      → (x ≡ f (members interface p (memberRoom d) (roomOf (d .attributes) (d .bodies) (d .lengths)) at)) × (d′ ≡ filled d (members interface p (memberRoom d) (roomOf (d .attributes) (d .bodies) (d .lengths)) at))
+      → (x ≡ f (members interface p (memberRoom c) (roomOf (c .attributes) (c .bodies) (c .lengths)) at)) × (d′ ≡ filled c (members interface p (memberRoom c) (roomOf (c .attributes) (c .bodies) (c .lengths)) at))
+  as-lent interface p at f x d′ h =
+      let s : members interface p (memberRoom d) (roomOf (d .attributes) (d .bodies) (d .lengths)) at ≡ members interface p (memberRoom c) (roomOf (c .attributes) (c .bodies) (c .lengths)) at =
+      ap (λ (r : ℕ). members interface p r (roomOf (d .attributes) (d .bodies) (d .lengths)) at) (same-room d c long-cleared) ∙ ap (λ (l : ℕ). members interface p (memberRoom c) l at) (same-limit d c long-cleared) in
+      (h .0 ∙ ap f s, h .1 ∙ filled-long c d (members interface p (memberRoom d) (roomOf (d .attributes) (d .bodies) (d .lengths)) at) long-cleared ∙ ap (filled c) s)

@@ -1,4 +1,2 @@
-pub mod Whole
-pub mod Turns
 pub mod Both
 pub mod Once

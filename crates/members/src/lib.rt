@@ -1,45 +1,19 @@
 // Fields, then methods: each is judged and becomes a record in lent number slices, its attributes after those of the members before.
-use member::Member;
-use member::MemberAnswer;
 use member::Sort;
-use reads::Next;
-use reads::Num2;
 use reads::Refusal;
+use sorts::Sorted;
+use sorts::SortedAnswer;
 ghost use mathlib.Core.Path.{_≡_};
-ghost use Prim.Native.Nat.{_+_, _≤_, _<_, min};
-ghost use lib.ListN.{length, set, replicate};
+ghost use lib.ListN.{length};
 ghost use Rattle.reads.specs.Answer.{mapped};
 ghost use Rattle.reads.specs.Promise.{Is};
 ghost use Rattle.pool.specs.Pool.{seen};
 ghost use Rattle.attributes.specs.Attributes.{roomOf};
-ghost use Rattle.members.specs.Members.{wholeAt, reach, sortAt, bothAt, members};
-ghost use Rattle.members.specs.Lent.{Ready, Zeroed, memberRoom, afterOne, afterMany, filled, reachedAt};
-ghost use Rattle.members.specs.Readings.{placeOf, sortedOf, countedOf, readingPlace, readingSorted, readingCounted};
-
-// A byte of the file, and the number of attribute records made so far.
-pub struct Place {
-    pub at: usize,
-    pub used: usize,
-}
-
-// What is reached after a member, or the refusal.
-pub enum PlaceAnswer {
-    Got(Place),
-    Refused(Refusal),
-}
-
-// How many members of one sort were read, the byte after them and the number of attribute records made so far.
-pub struct Sorted {
-    pub count: u16,
-    pub at: usize,
-    pub used: usize,
-}
-
-// What is reached after the members of one sort, or the refusal.
-pub enum SortedAnswer {
-    Got(Sorted),
-    Refused(Refusal),
-}
+ghost use Rattle.sorts.specs.Sorts.{sortIn};
+ghost use Rattle.sorts.specs.Lent.{memberRoom, afterMany};
+ghost use Rattle.members.specs.Members.{aField, aMethod, members};
+ghost use Rattle.members.specs.Lent.{filled};
+ghost use Rattle.members.specs.Readings.{countedOf, readingCounted};
 
 // How many fields and methods were read, the byte after them and the number of their attribute records.
 pub struct Counted {
@@ -55,197 +29,24 @@ pub enum CountedAnswer {
     Refused(Refusal),
 }
 
-// Every cell of the columns of members becomes zero.
-pub fn clear_members(
-    flags: &mut [u16],
-    names: &mut [u16],
-    types: &mut [u16],
-    firsts: &mut [u32],
-    counts: &mut [u16],
-)
-    ensures { λ _. ⌜ (now (flags .exit) ≡ replicate (length (now (flags .entry))) 0) × (now (names .exit) ≡ replicate (length (now (names .entry))) 0) × (now (types .exit) ≡ replicate (length (now (types .entry))) 0) × (now (firsts .exit) ≡ replicate (length (now (firsts .entry))) 0) × (now (counts .exit) ≡ replicate (length (now (counts .entry))) 0) ⌝ }
+// What is read first.
+fn a_field() -> Sort
+    ensures { λ r. ⌜ r ≡ aField ⌝ }
 {
-    reads::clear_list(flags);
-    reads::clear_list(names);
-    reads::clear_list(types);
-    reads::clear(firsts);
-    reads::clear_list(counts);
-}
-
-// Every cell of the columns of attributes becomes zero.
-pub fn clear_attributes(titles: &mut [u16], bodies: &mut [u32], lengths: &mut [u32])
-    ensures { λ _. ⌜ (now (titles .exit) ≡ replicate (length (now (titles .entry))) 0) × (now (bodies .exit) ≡ replicate (length (now (bodies .entry))) 0) × (now (lengths .exit) ≡ replicate (length (now (lengths .entry))) 0) ⌝ }
-{
-    reads::clear_list(titles);
-    reads::clear(bodies);
-    reads::clear(lengths);
-}
-
-// Record n of the columns.
-fn store_member(
-    flags: &mut [u16],
-    names: &mut [u16],
-    types: &mut [u16],
-    firsts: &mut [u32],
-    counts: &mut [u16],
-    n: usize,
-    m: Member,
-    first: u32,
-)
-    requires { ⌜ (n < length (now flags)) × (n < length (now names)) × (n < length (now types)) × (n < length (now firsts)) × (n < length (now counts)) ⌝ }
-    ensures { λ _. ⌜ (now (flags .exit) ≡ set (now (flags .entry)) n (m .flags)) × (now (names .exit) ≡ set (now (names .entry)) n (m .name)) × (now (types .exit) ≡ set (now (types .entry)) n (m .descriptor)) × (now (firsts .exit) ≡ set (now (firsts .entry)) n first) × (now (counts .exit) ≡ set (now (counts .entry)) n (m .count)) ⌝ }
-{
-    flags[n] = m.flags;
-    names[n] = m.name;
-    types[n] = m.descriptor;
-    firsts[n] = first;
-    counts[n] = m.count;
-}
-
-// The member at a byte of the file with its attributes, into record n and the attribute records from `used` on. Records from `first` on are of its sort.
-fn read_member(
-    sort: Sort,
-    file: &[u8],
-    major: u16,
-    table: &[u32],
-    slots: usize,
-    room: usize,
-    first: usize,
-    n: usize,
-    at: usize,
-    used: usize,
-    flags: &mut [u16],
-    names: &mut [u16],
-    types: &mut [u16],
-    firsts: &mut [u32],
-    counts: &mut [u16],
-    titles: &mut [u16],
-    bodies: &mut [u32],
-    lengths: &mut [u32],
-) -> PlaceAnswer
-    requires { ⌜ Ready (now file) room first n at used (record { flags = now flags; names = now names; types = now types; firsts = now firsts; counts = now counts; attributes = now titles; bodies = now bodies; lengths = now lengths }) ⌝ }
-    ensures answer { λ r. ⌜ Is readingPlace (mapped (λ w. placeOf (reach w (reachedAt at used first n (now (names .entry)) (now (types .entry))))) (wholeAt sort (seen (now (file .entry)) major (now (table .entry)) slots) room (roomOf (now (titles .entry)) (now (bodies .entry)) (now (lengths .entry))) n (reachedAt at used first n (now (names .entry)) (now (types .entry))))) r ⌝ }
-    ensures tables { λ r. ⌜ record { flags = now (flags .exit); names = now (names .exit); types = now (types .exit); firsts = now (firsts .exit); counts = now (counts .exit); attributes = now (titles .exit); bodies = now (bodies .exit); lengths = now (lengths .exit) } ≡ afterOne (record { flags = now (flags .entry); names = now (names .entry); types = now (types .entry); firsts = now (firsts .entry); counts = now (counts .entry); attributes = now (titles .entry); bodies = now (bodies .entry); lengths = now (lengths .entry) }) n used (wholeAt sort (seen (now (file .entry)) major (now (table .entry)) slots) room (roomOf (now (titles .entry)) (now (bodies .entry)) (now (lengths .entry))) n (reachedAt at used first n (now (names .entry)) (now (types .entry)))) ⌝ }
-{
-    let before = &names[first..n];
-    let with = &types[first..n];
-    match member::member_at(sort, file, major, table, slots, room, n, at, before, with) {
-        MemberAnswer::Refused(r) => {
-            clear_members(flags, names, types, firsts, counts);
-            clear_attributes(titles, bodies, lengths);
-            PlaceAnswer::Refused(r)
-        }
-        MemberAnswer::Got(m) => {
-            let k = m.count;
-            match attributes::frame(
-                false,
-                file,
-                major,
-                table,
-                slots,
-                at + 8,
-                k,
-                used,
-                titles,
-                bodies,
-                lengths,
-            ) {
-                Next::Refused(r) => {
-                    clear_members(flags, names, types, firsts, counts);
-                    PlaceAnswer::Refused(r)
-                }
-                Next::At(next) => {
-                    store_member(flags, names, types, firsts, counts, n, m, used as u32);
-                    PlaceAnswer::Got(Place {
-                        at: next,
-                        used: used + k as usize,
-                    })
-                }
-            }
-        }
+    Sort {
+        method: false,
+        in_interface: false,
     }
 }
 
-// The members of one sort from their number at a byte of the file on, into the records from `first` on and the attribute records from `before` on.
-fn read_sort(
-    sort: Sort,
-    file: &[u8],
-    major: u16,
-    table: &[u32],
-    slots: usize,
-    room: usize,
-    first: usize,
-    start: usize,
-    before: usize,
-    flags: &mut [u16],
-    names: &mut [u16],
-    types: &mut [u16],
-    firsts: &mut [u32],
-    counts: &mut [u16],
-    titles: &mut [u16],
-    bodies: &mut [u32],
-    lengths: &mut [u32],
-) -> SortedAnswer
-    requires { ⌜ Ready (now file) room first first start before (record { flags = now flags; names = now names; types = now types; firsts = now firsts; counts = now counts; attributes = now titles; bodies = now bodies; lengths = now lengths }) ⌝ }
-    ensures answer { λ r. ⌜ Is readingSorted (mapped sortedOf (sortAt sort (seen (now (file .entry)) major (now (table .entry)) slots) room (roomOf (now (titles .entry)) (now (bodies .entry)) (now (lengths .entry))) first start before)) r ⌝ }
-    ensures tables { λ r. ⌜ record { flags = now (flags .exit); names = now (names .exit); types = now (types .exit); firsts = now (firsts .exit); counts = now (counts .exit); attributes = now (titles .exit); bodies = now (bodies .exit); lengths = now (lengths .exit) } ≡ afterMany (record { flags = now (flags .entry); names = now (names .entry); types = now (types .entry); firsts = now (firsts .entry); counts = now (counts .entry); attributes = now (titles .entry); bodies = now (bodies .entry); lengths = now (lengths .entry) }) first before (sortAt sort (seen (now (file .entry)) major (now (table .entry)) slots) room (roomOf (now (titles .entry)) (now (bodies .entry)) (now (lengths .entry))) first start before) ⌝ }
-{
-    let count = match reads::read_u2(file, start) {
-        Num2::Refused(r) => {
-            clear_members(flags, names, types, firsts, counts);
-            clear_attributes(titles, bodies, lengths);
-            return SortedAnswer::Refused(r);
-        }
-        Num2::Got(v) => v,
-    };
-    let mut at = start + 2;
-    let mut used = before;
-    let mut n = first;
-    let mut left = count;
-    while 0 < left {
-        match read_member(
-            sort,
-            file,
-            major,
-            table,
-            slots,
-            room,
-            first,
-            n,
-            at,
-            used,
-            flags,
-            names,
-            types,
-            firsts,
-            counts,
-            titles,
-            bodies,
-            lengths,
-        ) {
-            PlaceAnswer::Refused(r) => {
-                return SortedAnswer::Refused(r);
-            }
-            PlaceAnswer::Got(p) => {
-                at = p.at;
-                used = p.used;
-            }
-        }
-        n += 1;
-        left -= 1;
-    }
-    SortedAnswer::Got(Sorted { count, at, used })
-}
-
-// Fields, then methods, into columns that are zero.
-fn read_both(
+// The methods after the fields that were read.
+fn read_methods(
     in_interface: bool,
     file: &[u8],
     major: u16,
     table: &[u32],
     slots: usize,
-    room: usize,
-    start: usize,
+    f: Sorted,
     flags: &mut [u16],
     names: &mut [u16],
     types: &mut [u16],
@@ -255,28 +56,22 @@ fn read_both(
     bodies: &mut [u32],
     lengths: &mut [u32],
 ) -> CountedAnswer
-    requires { ⌜ Zeroed (now file) room (record { flags = now flags; names = now names; types = now types; firsts = now firsts; counts = now counts; attributes = now titles; bodies = now bodies; lengths = now lengths }) ⌝ }
-    ensures answer { λ r. ⌜ Is readingCounted (mapped countedOf (bothAt in_interface (seen (now (file .entry)) major (now (table .entry)) slots) room (roomOf (now (titles .entry)) (now (bodies .entry)) (now (lengths .entry))) start)) r ⌝ }
-    ensures tables { λ r. ⌜ record { flags = now (flags .exit); names = now (names .exit); types = now (types .exit); firsts = now (firsts .exit); counts = now (counts .exit); attributes = now (titles .exit); bodies = now (bodies .exit); lengths = now (lengths .exit) } ≡ filled (record { flags = now (flags .entry); names = now (names .entry); types = now (types .entry); firsts = now (firsts .entry); counts = now (counts .entry); attributes = now (titles .entry); bodies = now (bodies .entry); lengths = now (lengths .entry) }) (bothAt in_interface (seen (now (file .entry)) major (now (table .entry)) slots) room (roomOf (now (titles .entry)) (now (bodies .entry)) (now (lengths .entry))) start) ⌝ }
+    ensures answer { λ r. ⌜ Is readingCounted (mapped (λ m. record { fields = f .count; methods = length (m .list); next = m .end .at; used = m .end .used }) (sortIn (aMethod in_interface) (seen (now (file .entry)) major (now (table .entry)) slots) (memberRoom (record { flags = now (flags .entry); names = now (names .entry); types = now (types .entry); firsts = now (firsts .entry); counts = now (counts .entry); attributes = now (titles .entry); bodies = now (bodies .entry); lengths = now (lengths .entry) })) (roomOf (now (titles .entry)) (now (bodies .entry)) (now (lengths .entry))) (f .count) (f .at) (f .used))) r ⌝ }
+    ensures tables { λ r. ⌜ record { flags = now (flags .exit); names = now (names .exit); types = now (types .exit); firsts = now (firsts .exit); counts = now (counts .exit); attributes = now (titles .exit); bodies = now (bodies .exit); lengths = now (lengths .exit) } ≡ afterMany (record { flags = now (flags .entry); names = now (names .entry); types = now (types .entry); firsts = now (firsts .entry); counts = now (counts .entry); attributes = now (titles .entry); bodies = now (bodies .entry); lengths = now (lengths .entry) }) (f .count) (f .used) (sortIn (aMethod in_interface) (seen (now (file .entry)) major (now (table .entry)) slots) (memberRoom (record { flags = now (flags .entry); names = now (names .entry); types = now (types .entry); firsts = now (firsts .entry); counts = now (counts .entry); attributes = now (titles .entry); bodies = now (bodies .entry); lengths = now (lengths .entry) })) (roomOf (now (titles .entry)) (now (bodies .entry)) (now (lengths .entry))) (f .count) (f .at) (f .used)) ⌝ }
 {
-    let fields = Sort {
-        method: false,
-        in_interface: false,
-    };
     let methods = Sort {
         method: true,
         in_interface,
     };
-    match read_sort(
-        fields,
+    match sorts::read_sort(
+        methods,
         file,
         major,
         table,
         slots,
-        room,
-        0,
-        start,
-        0,
+        f.count as usize,
+        f.at,
+        f.used,
         flags,
         names,
         types,
@@ -287,40 +82,13 @@ fn read_both(
         lengths,
     ) {
         SortedAnswer::Refused(r) => CountedAnswer::Refused(r),
-        SortedAnswer::Got(f) => match read_sort(
-            methods,
-            file,
-            major,
-            table,
-            slots,
-            room,
-            f.count as usize,
-            f.at,
-            f.used,
-            flags,
-            names,
-            types,
-            firsts,
-            counts,
-            titles,
-            bodies,
-            lengths,
-        ) {
-            SortedAnswer::Refused(r) => CountedAnswer::Refused(r),
-            SortedAnswer::Got(m) => CountedAnswer::Got(Counted {
-                fields: f.count,
-                methods: m.count,
-                next: m.at,
-                used: m.used,
-            }),
-        },
+        SortedAnswer::Got(m) => CountedAnswer::Got(Counted {
+            fields: f.count,
+            methods: m.count,
+            next: m.at,
+            used: m.used,
+        }),
     }
-}
-
-fn least(a: usize, b: usize) -> usize
-    ensures { λ r. ⌜ r ≡ min a b ⌝ }
-{
-    if a <= b { a } else { b }
 }
 
 // Fields and methods from a byte of the file on, and their attributes, into lent columns; after a refusal every column is zero.
@@ -343,27 +111,17 @@ pub fn read_members(
     ensures answer { λ r. ⌜ Is readingCounted (mapped countedOf (members in_interface (seen (now (file .entry)) major (now (table .entry)) slots) (memberRoom (record { flags = now (flags .entry); names = now (names .entry); types = now (types .entry); firsts = now (firsts .entry); counts = now (counts .entry); attributes = now (titles .entry); bodies = now (bodies .entry); lengths = now (lengths .entry) })) (roomOf (now (titles .entry)) (now (bodies .entry)) (now (lengths .entry))) start)) r ⌝ }
     ensures tables { λ r. ⌜ record { flags = now (flags .exit); names = now (names .exit); types = now (types .exit); firsts = now (firsts .exit); counts = now (counts .exit); attributes = now (titles .exit); bodies = now (bodies .exit); lengths = now (lengths .exit) } ≡ filled (record { flags = now (flags .entry); names = now (names .entry); types = now (types .entry); firsts = now (firsts .entry); counts = now (counts .entry); attributes = now (titles .entry); bodies = now (bodies .entry); lengths = now (lengths .entry) }) (members in_interface (seen (now (file .entry)) major (now (table .entry)) slots) (memberRoom (record { flags = now (flags .entry); names = now (names .entry); types = now (types .entry); firsts = now (firsts .entry); counts = now (counts .entry); attributes = now (titles .entry); bodies = now (bodies .entry); lengths = now (lengths .entry) })) (roomOf (now (titles .entry)) (now (bodies .entry)) (now (lengths .entry))) start) ⌝ }
 {
-    clear_members(flags, names, types, firsts, counts);
-    clear_attributes(titles, bodies, lengths);
-    if 16777216 < file.len() {
-        return CountedAnswer::Refused(Refusal {
-            number: 1,
-            place: 0,
-        });
-    }
-    let some = least(
-        least(flags.len(), names.len()),
-        least(types.len(), firsts.len()),
-    );
-    let room = least(some, counts.len());
-    read_both(
-        in_interface,
+    sorts::clear_members(flags, names, types, firsts, counts);
+    sorts::clear_attributes(titles, bodies, lengths);
+    match sorts::read_sort(
+        a_field(),
         file,
         major,
         table,
         slots,
-        room,
+        0,
         start,
+        0,
         flags,
         names,
         types,
@@ -372,5 +130,23 @@ pub fn read_members(
         titles,
         bodies,
         lengths,
-    )
+    ) {
+        SortedAnswer::Refused(r) => CountedAnswer::Refused(r),
+        SortedAnswer::Got(f) => read_methods(
+            in_interface,
+            file,
+            major,
+            table,
+            slots,
+            f,
+            flags,
+            names,
+            types,
+            firsts,
+            counts,
+            titles,
+            bodies,
+            lengths,
+        ),
+    }
 }

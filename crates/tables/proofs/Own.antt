@@ -17,7 +17,7 @@ use Rattle.attributes.proofs.Columns.{column-stop, placed-part}
 use Rattle.attributes.proofs.Frames.{record-in, not-too-long}
 use Rattle.attributes.proofs.Tiled.{made}
 use Rattle.header.proofs.Placed.{whole-of, refused-of, roomy}
-use Rattle.members.proofs.Turns.{map-length}
+use Rattle.sorts.proofs.Turns.{map-length}
 use Rattle.tables.specs.Rest.{endAt, ownAt}
 
 -- ---- the code's steps

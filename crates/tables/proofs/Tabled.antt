@@ -20,8 +20,8 @@ use Rattle.members.specs.declared.Counted.{Counted}
 use Rattle.members.specs.Members.{Whole, Both, bothAt, members}
 use Rattle.members.specs.Readings.{countedOf}
 use Rattle.members.specs.Lent.{Columns, memberRoom, gathered, ofEach, each-column, filled, zeros}
-use Rattle.members.proofs.Turns.{map-length, same-limit, Long}
-use Rattle.members.proofs.Both.{BothIn, both-in, zeros-long}
+use Rattle.sorts.proofs.Turns.{map-length, same-limit, Long, zeros-long}
+use Rattle.members.proofs.Both.{BothIn, both-in}
 use Rattle.tables.specs.Rest.{Tables, ownAt, tablesAt, tables, tabled}
 use Rattle.tables.specs.Readings.{totalsOf}
 use Rattle.tables.proofs.Own.{limit-le, own-in}

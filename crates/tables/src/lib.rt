@@ -73,7 +73,7 @@ fn read_own(
 {
     let count = match reads::read_u2(file, start) {
         Num2::Refused(r) => {
-            members::clear_attributes(titles, bodies, lengths);
+            sorts::clear_attributes(titles, bodies, lengths);
             return Num2::Refused(r);
         }
         Num2::Got(v) => v,
@@ -98,7 +98,7 @@ fn read_own(
     };
     match check_end(file, major, table, slots, end, titles, bodies, used, count) {
         CheckAnswer::Refused(r) => {
-            members::clear_attributes(titles, bodies, lengths);
+            sorts::clear_attributes(titles, bodies, lengths);
             Num2::Refused(r)
         }
         CheckAnswer::Fine => Num2::Got(count),
@@ -151,7 +151,7 @@ pub fn read_tables(
     let used = m.used;
     match read_own(file, major, table, slots, at, used, titles, bodies, lengths) {
         Num2::Refused(r) => {
-            members::clear_members(flags, names, types, firsts, counts);
+            sorts::clear_members(flags, names, types, firsts, counts);
             TotalsAnswer::Refused(r)
         }
         Num2::Got(own) => TotalsAnswer::Got(Totals {

@@ -1,6 +1,6 @@
 -- `member::is_twice` meets its contract. Assumes nothing.
-use borrow.Author.Needs.{needs}
 use Prim.Native.Nat.{_-_}
+use borrow.Author.Needs.{needs}
 use mathlib.Core.Path.{_≡_, refl}
 use lib.ListN.{length, drop}
 use Rattle.pool.specs.Pool.{seen}
@@ -11,12 +11,19 @@ use Rattle.member.proofs.is_twice.Tie as tie
 use Rattle.member.proofs.is_twice.Reads as reads
 use Rattle.member.proofs.is_twice.Lts as lts
 use Rattle.member.proofs.is_same.Reads as is-same-reads
+use Rattle.slot.proofs.bytes_of.Reads as bytes-of-reads
 
 abbrev Inv-loop : tie.InvT-loop
-Inv-loop file major table slots name descriptor names types i₀ i = twice (seen file major table slots) name descriptor (drop i names) (drop i types) ≡ twice (seen file major table slots) name descriptor names types
+Inv-loop file major table slots name descriptor names types mine shape i₀ i = twice (seen file major table slots) name descriptor (drop i names) (drop i types) ≡ twice (seen file major table slots) name descriptor names types
 
 abbrev μ-loop : tie.MeasureT-loop
-μ-loop file major table slots name descriptor names types i₀ i = length names - i
+μ-loop file major table slots name descriptor names types mine shape i₀ i = length names - i
+
+bytes-of-requires : tie.Need-bytes-of-requires Inv-loop μ-loop
+bytes-of-requires c κs = search needs
+
+bytes-of-requires-2 : tie.Need-bytes-of-requires-2 Inv-loop μ-loop
+bytes-of-requires-2 c κs = search needs
 
 loop-holds : tie.Need-loop-holds Inv-loop μ-loop
 loop-holds c = refl
@@ -37,7 +44,7 @@ shared-slice-read-t : tie.Need-shared-slice-read-t Inv-loop μ-loop
 shared-slice-read-t c = search needs
 
 is-same-requires : tie.Need-is-same-requires Inv-loop μ-loop
-is-same-requires c κs = search needs
+is-same-requires c κs = (c .before .before .before .before .before .before .bytes-of .ensures, c .before .before .before .before .before .bytes-of2 .ensures)
 
 returns-2 : tie.Need-returns-2 Inv-loop μ-loop
 returns-2 c = let h = c .before .before .before .before .before .loop-test .taken in let g = c .before .before .before .before .if1 .left in simp (← c .before .before .before .before .before .before .loop .inv, twice-in, ← c .before .is-same .ensures, c .if2 .taken)
@@ -60,6 +67,8 @@ is-twice-spec =
     (tie.spec
     Inv-loop
     μ-loop
+    bytes-of-requires
+    bytes-of-requires-2
     loop-holds
     returns
     mul-m

@@ -1,18 +1,23 @@
 -- `member::member_at` meets its contract. Assumes nothing.
 use borrow.Author.Needs.{needs}
-use Rattle.member.specs.Member.{memberAt}
-use borrow.Author.Tests.{le-ltb, lt-ltb}
+use mathlib.Core.Path.{_∙_}
+use Prim.Native.Nat.{ℕ, _+_}
+use Rattle.reads.specs.Bytes.{u2}
+use Rattle.member.specs.declared.Member.{Member}
 use native.Mathlib.Omega.{arith}
 use Rattle.reads.specs.Promise.{reading2}
 use Rattle.reads.proofs.Answers.{got}
 use Rattle.attributes.proofs.Frames.{u2-in}
+use Rattle.member.proofs.Inside.{as-last}
+use Rattle.member.specs.Member.{masked, memberAt}
+use borrow.Author.Tests.{le-ltb, lt-leb, lt-ltb}
 use Rattle.member.proofs.member_at.Statement.{statement}
 use Rattle.member.proofs.member_at.Tie as tie
 use Rattle.member.proofs.member_at.Reads as reads
 use Rattle.member.proofs.member_at.Lts as lts
 use Rattle.member.proofs.check_parts.Reads as check-parts-reads
+use Rattle.member.proofs.counted_at.Reads as counted-at-reads
 use Rattle.member.proofs.is_twice.Reads as is-twice-reads
-use Rattle.member.proofs.mask.Reads as mask-reads
 use Rattle.reads.proofs.read_u2.Reads as read-u2-reads
 
 read-u2-requires : tie.Need-read-u2-requires
@@ -60,12 +65,6 @@ returns-3 c = simp (← c .before .before .before .before .before .before .befor
 enum-known-v-3 : tie.Need-enum-known-v-3
 enum-known-v-3 c = search needs
 
-cast-check-parts : tie.Need-cast-check-parts
-cast-check-parts c = search needs
-
-cast-check-parts-2 : tie.Need-cast-check-parts-2
-cast-check-parts-2 c = search needs
-
 check-parts-requires : tie.Need-check-parts-requires
 check-parts-requires c κs = omega (arith, u2-in _ _ _ (got reading2 (c .before .v3 .given .1) (c .before .before .before .read-u23 .ensures)))
 
@@ -90,28 +89,15 @@ returns-6 : tie.Need-returns-6
 unfolding memberAt
 returns-6 c = simp (← c .before .before .before .before .before .before .before .before .before .before .before .before .before .before .before .before .before .read-u2 .ensures, c .before .before .before .before .before .before .before .before .before .before .before .before .before .before .before .v .given .1, ← c .before .before .before .before .before .before .before .before .before .before .before .before .before .read-u22 .ensures, c .before .before .before .before .before .before .before .before .before .before .before .v2 .given .1, ← c .before .before .before .before .before .before .before .before .before .read-u23 .ensures, c .before .before .before .before .before .before .before .v3 .given .1, ← c .before .before .before .before .before .check-parts .ensures, c .before .before .before .enum-told .given .1, ← c .before .before .is-twice .ensures, c .before .if1 .left, le-ltb _ _ (c .if2 .taken))
 
-add-read-u2-3 : tie.Need-add-read-u2-3
-add-read-u2-3 c = omega (arith, u2-in _ _ _ (got reading2 (c .before .before .before .before .before .before .before .v3 .given .1) (c .before .before .before .before .before .before .before .before .before .read-u23 .ensures)), c .before .before .before .before .before .before .before .before .before .before .before .before .before .before .before .before .before .before .before .before .before .before .good)
+add-counted-at : tie.Need-add-counted-at
+add-counted-at c = omega (arith, u2-in _ _ _ (got reading2 (c .before .before .before .before .before .before .before .v3 .given .1) (c .before .before .before .before .before .before .before .before .before .read-u23 .ensures)), c .before .before .before .before .before .before .before .before .before .before .before .before .before .before .before .before .before .before .before .before .before .before .good)
 
-read-u2-requires-4 : tie.Need-read-u2-requires-4
-read-u2-requires-4 c κs = search needs
-
-enum-known-r-5 : tie.Need-enum-known-r-5
-enum-known-r-5 c = search needs
-
-enum-known-count : tie.Need-enum-known-count
-enum-known-count c = search needs
-
-mask-requires : tie.Need-mask-requires
-mask-requires c κs = search needs
+counted-at-requires : tie.Need-counted-at-requires
+counted-at-requires c κs = search needs
 
 returns-7 : tie.Need-returns-7
 unfolding memberAt
-returns-7 c = simp (← c .before .before .before .before .before .before .before .before .before .before .before .before .before .before .before .before .before .before .before .before .before .read-u2 .ensures, c .before .before .before .before .before .before .before .before .before .before .before .before .before .before .before .before .before .before .before .v .given .1, ← c .before .before .before .before .before .before .before .before .before .before .before .before .before .before .before .before .before .read-u22 .ensures, c .before .before .before .before .before .before .before .before .before .before .before .before .before .before .before .v2 .given .1, ← c .before .before .before .before .before .before .before .before .before .before .before .before .before .read-u23 .ensures, c .before .before .before .before .before .before .before .before .before .before .before .v3 .given .1, ← c .before .before .before .before .before .before .before .before .before .check-parts .ensures, c .before .before .before .before .before .before .before .enum-told .given .1, ← c .before .before .before .before .before .before .is-twice .ensures, c .before .before .before .before .before .if1 .left, lt-ltb _ _ (c .before .before .before .before .if2 .left), ← c .before .before .before .read-u24 .ensures, c .before .r5 .given .1)
-
-returns-8 : tie.Need-returns-8
-unfolding memberAt
-returns-8 c = simp (← c .before .before .before .before .before .before .before .before .before .before .before .before .before .before .before .before .before .before .before .before .before .before .read-u2 .ensures, c .before .before .before .before .before .before .before .before .before .before .before .before .before .before .before .before .before .before .before .before .v .given .1, ← c .before .before .before .before .before .before .before .before .before .before .before .before .before .before .before .before .before .before .read-u22 .ensures, c .before .before .before .before .before .before .before .before .before .before .before .before .before .before .before .before .v2 .given .1, ← c .before .before .before .before .before .before .before .before .before .before .before .before .before .before .read-u23 .ensures, c .before .before .before .before .before .before .before .before .before .before .before .before .v3 .given .1, ← c .before .before .before .before .before .before .before .before .before .before .check-parts .ensures, c .before .before .before .before .before .before .before .before .enum-told .given .1, ← c .before .before .before .before .before .before .before .is-twice .ensures, c .before .before .before .before .before .before .if1 .left, lt-ltb _ _ (c .before .before .before .before .before .if2 .left), ← c .before .before .before .before .read-u24 .ensures, c .before .before .count .given .1, ← c .mask .ensures)
+returns-7 c = simp (← c .before .before .before .before .before .before .before .before .before .before .before .before .before .before .before .before .before .before .read-u2 .ensures, c .before .before .before .before .before .before .before .before .before .before .before .before .before .before .before .before .v .given .1, ← c .before .before .before .before .before .before .before .before .before .before .before .before .before .before .read-u22 .ensures, c .before .before .before .before .before .before .before .before .before .before .before .before .v2 .given .1, ← c .before .before .before .before .before .before .before .before .before .before .read-u23 .ensures, c .before .before .before .before .before .before .before .before .v3 .given .1, ← c .before .before .before .before .before .before .check-parts .ensures, c .before .before .before .before .enum-told .given .1, ← c .before .before .before .is-twice .ensures, c .before .before .if1 .left, lt-ltb _ _ (c .before .if2 .left)) (c .counted-at .ensures ∙ as-last {A = ℕ} {B = Member} (λ k. record { flags = masked (c .before .before .before .before .before .before .before .before .before .before .before .before .before .before .before .before .before .before .before .before .before .before .before .args .sort .method) (c .before .before .before .before .before .before .before .before .before .before .before .before .before .before .before .before .v .given .0 .0); name = c .before .before .before .before .before .before .before .before .before .before .before .before .v2 .given .0 .0; descriptor = c .before .before .before .before .before .before .before .before .v3 .given .0 .0; count = k }) (u2 (c .before .before .before .before .before .before .before .before .before .before .before .before .before .before .before .before .before .before .before .before .before .before .before .args .file .now) (c .before .before .before .before .before .before .before .before .before .before .before .before .before .before .before .before .before .before .before .before .before .before .before .args .at + 6)))
 
 pub member-at-spec : {M : Type 1} → statement M
 member-at-spec =
@@ -131,8 +117,6 @@ member-at-spec =
     enum-known-r-3
     returns-3
     enum-known-v-3
-    cast-check-parts
-    cast-check-parts-2
     check-parts-requires
     enum-known-r-4
     returns-4
@@ -140,10 +124,6 @@ member-at-spec =
     is-twice-requires
     returns-5
     returns-6
-    add-read-u2-3
-    read-u2-requires-4
-    enum-known-r-5
-    enum-known-count
-    mask-requires
-    returns-7
-    returns-8)
+    add-counted-at
+    counted-at-requires
+    returns-7)

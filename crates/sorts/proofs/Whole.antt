@@ -1,17 +1,16 @@
 -- One member with its attributes: what it says of the file, and what it leaves in the columns. Assumes nothing.
 use mathlib.Core.Path.{_≡_, refl, ap, sym, _∙_}
 use mathlib.Core.Bool.{false}
-use mathlib.Core.List.{List, [], _∷_, map}
+use mathlib.Core.List.{List, map}
 use Prim.Native.Nat.{ℕ, _+_, _≤_, _<_}
 use native.Mathlib.Omega.{arith}
-use lib.ListN.{length, set, replicate}
-use Rattle.reads.specs.Answer.{Answer, accept, refuse, _>>=_, mapped}
-use Rattle.reads.proofs.Answers.{first}
+use lib.ListN.{length, set}
+use Rattle.reads.specs.Answer.{Answer, accept, refuse, mapped}
+use Rattle.reads.proofs.Answers.{first, never}
 use Rattle.pool.specs.Pool.{Pool}
 use Rattle.attributes.specs.declared.Attribute.{Attribute}
 use Rattle.attributes.specs.Records.{Many, placed, column, stored}
 use Rattle.attributes.specs.Attributes.{recordAt, bodyEnd, framed, attributes, roomOf}
-use Rattle.attributes.proofs.Columns.{column-stop}
 use Rattle.attributes.proofs.Frames.{record-in, not-too-long}
 use Rattle.attributes.proofs.Tiled.{made, tiled, tiles-far}
 use Rattle.member.specs.declared.Sort.{Sort}
@@ -19,10 +18,10 @@ use Rattle.member.specs.declared.Member.{Member}
 use Rattle.member.specs.Member.{memberAt}
 use Rattle.member.proofs.Inside.{member-in}
 use Rattle.header.proofs.Placed.{whole-of, refused-of, roomy}
-use Rattle.members.specs.declared.Place.{Place}
-use Rattle.members.specs.Members.{Whole, Reached, wholeAt, reach}
-use Rattle.members.specs.Readings.{placeOf}
-use Rattle.members.specs.Lent.{Columns, ofEach, afterOne}
+use Rattle.sorts.specs.declared.Place.{Place}
+use Rattle.sorts.specs.Sorts.{Whole, Reached, wholeAt, reach}
+use Rattle.sorts.specs.Readings.{placeOf}
+use Rattle.sorts.specs.Lent.{Columns, Accepted, afterOne}
 
 -- ---- attributes take bytes
 
@@ -65,38 +64,17 @@ module _ (k : Sort) (p : Pool) (room n : ℕ) (s : Reached) (c : Columns) where
   abbrev pub next-of : Answer Whole
   next-of = wholeAt k p room limit n s
 
-  -- what the call answers, and what it leaves
+  -- what the call answers, and what it leaves where it accepts
   abbrev pub Leaves : Answer Place → Columns → Type 0
-  Leaves x d = (x ≡ mapped (λ w. placeOf (reach w s)) next-of) × (d ≡ afterOne c n (s .used) next-of)
+  Leaves x d = (x ≡ mapped (λ w. placeOf (reach w s)) next-of) × Accepted next-of (afterOne c n (s .used)) d
 
-  -- a refusal leaves zeros
-  module _ (nr place : ℕ) (e : refuse nr place ≡ next-of) (flags names types firsts counts titles bodies lengths : List ℕ) where
-    zeros : (flags ≡ replicate (length (c .flags)) 0) × (names ≡ replicate (length (c .names)) 0) × (types ≡ replicate (length (c .types)) 0) × (firsts ≡ replicate (length (c .firsts)) 0) × (counts ≡ replicate (length (c .counts)) 0)
-        → (titles ≡ replicate (length (c .attributes)) 0) × (bodies ≡ replicate (length (c .bodies)) 0) × (lengths ≡ replicate (length (c .lengths)) 0)
-        → Leaves (refuse nr place) (record { flags = flags; names = names; types = types; firsts = firsts; counts = counts; attributes = titles; bodies = bodies; lengths = lengths })
-    zeros a b =
-        rw (← e) (refl, λ i. record { flags = a .0 i; names = a .1 i; types = a .2 i; firsts = a .3 i; counts = a .4 i; attributes = b .0 i; bodies = b .1 i; lengths = b .2 i })
-
-  no-member : (nr place : ℕ) → refuse nr place ≡ memberAt k p room n (s .at) (s .names) (s .types) → refuse nr place ≡ next-of
-  unfolding wholeAt
-  no-member nr place e = rw (← e)
-
-  no-frames : (m : Member) (nr place : ℕ) → accept m ≡ memberAt k p room n (s .at) (s .names) (s .types) → refuse nr place ≡ framed false p limit (m .count) (s .used) (s .at + 8) → refuse nr place ≡ next-of
-  unfolding wholeAt
-  no-frames m nr place e g = rw (← e, ← g)
-
-  whole : (m : Member) (f : Many Attribute ℕ) → accept m ≡ memberAt k p room n (s .at) (s .names) (s .types) → accept f ≡ framed false p limit (m .count) (s .used) (s .at + 8)
-      → accept (record { member = m; first = s .used; attributes = f .list; next = f .end }) ≡ next-of
-  unfolding wholeAt
-  whole m f e g = rw (← e, ← g)
+  none : (nr place : ℕ) (d : Columns) → refuse nr place ≡ next-of → Leaves (refuse nr place) d
+  none nr place d e = (ap (mapped (λ w. placeOf (reach w s))) e, λ w g. absurd (never (g ∙ sym e)))
 
   -- the member is refused
-  pub not-good : (nr place : ℕ) → refuse nr place ≡ memberAt k p room n (s .at) (s .names) (s .types)
-      → (flags names types firsts counts titles bodies lengths : List ℕ)
-      → (flags ≡ replicate (length (c .flags)) 0) × (names ≡ replicate (length (c .names)) 0) × (types ≡ replicate (length (c .types)) 0) × (firsts ≡ replicate (length (c .firsts)) 0) × (counts ≡ replicate (length (c .counts)) 0)
-      → (titles ≡ replicate (length (c .attributes)) 0) × (bodies ≡ replicate (length (c .bodies)) 0) × (lengths ≡ replicate (length (c .lengths)) 0)
-      → Leaves (refuse nr place) (record { flags = flags; names = names; types = types; firsts = firsts; counts = counts; attributes = titles; bodies = bodies; lengths = lengths })
-  not-good nr place e = zeros nr place (no-member nr place e)
+  pub not-good : (nr place : ℕ) (d : Columns) → refuse nr place ≡ memberAt k p room n (s .at) (s .names) (s .types) → Leaves (refuse nr place) d
+  unfolding wholeAt
+  not-good nr place d e = none nr place d (rw (← e))
 
   module _ (m : Member) (e : accept m ≡ memberAt k p room n (s .at) (s .names) (s .types)) (short : length (p .file) ≤ 16777216) where
     abbrev framing : Answer (Many Attribute ℕ)
@@ -105,17 +83,19 @@ module _ (k : Sort) (p : Pool) (room n : ℕ) (s : Reached) (c : Columns) where
     same : framed false p limit (m .count) (s .used) (s .at + 8) ≡ framing
     same = not-too-long false p limit (m .count) (s .used) (s .at + 8) limit refl short
 
+    no-frames : (nr place : ℕ) → refuse nr place ≡ framed false p limit (m .count) (s .used) (s .at + 8) → refuse nr place ≡ next-of
+    unfolding wholeAt
+    no-frames nr place g = rw (← e, ← g)
+
+    whole : (f : Many Attribute ℕ) → accept f ≡ framed false p limit (m .count) (s .used) (s .at + 8) → accept (record { member = m; first = s .used; attributes = f .list; next = f .end }) ≡ next-of
+    unfolding wholeAt
+    whole f g = rw (← e, ← g)
+
     -- its attributes are
-    pub not-framed : (nr place : ℕ) → refuse nr place ≡ mapped (λ f. f .end) framing
-        → (flags names types firsts counts titles bodies lengths : List ℕ)
-        → (flags ≡ replicate (length (c .flags)) 0) × (names ≡ replicate (length (c .names)) 0) × (types ≡ replicate (length (c .types)) 0) × (firsts ≡ replicate (length (c .firsts)) 0) × (counts ≡ replicate (length (c .counts)) 0)
-        → (titles ≡ stored (column (λ a. a .name)) (c .attributes) (s .used) framing) × (bodies ≡ stored (column (λ a. a .start)) (c .bodies) (s .used) framing) × (lengths ≡ stored (column (λ a. a .size)) (c .lengths) (s .used) framing)
-        → Leaves (refuse nr place) (record { flags = flags; names = names; types = types; firsts = firsts; counts = counts; attributes = titles; bodies = bodies; lengths = lengths })
-    not-framed nr place h flags names types firsts counts titles bodies lengths a b =
+    pub not-framed : (nr place : ℕ) (d : Columns) → refuse nr place ≡ mapped (λ f. f .end) framing → Leaves (refuse nr place) d
+    not-framed nr place d h =
         let g = refused-of (λ (f : Many Attribute ℕ). f .end) framing nr place h in
-        let z = no-frames m nr place e (g ∙ sym same) in
-        zeros nr place z flags names types firsts counts titles bodies lengths a
-        (b .0 ∙ sym (column-stop _ _ _ _ nr place g), b .1 ∙ sym (column-stop _ _ _ _ nr place g), b .2 ∙ sym (column-stop _ _ _ _ nr place g))
+        none nr place d (no-frames nr place (g ∙ sym same))
 
     got-column : (g : Attribute → ℕ) (t u : List ℕ) (f : Many Attribute ℕ) → accept f ≡ framing → u ≡ stored (column g) t (s .used) framing → u ≡ placed t (s .used) (map g (f .list))
     got-column g t u f h v = v ∙ ap (stored (column g) t (s .used)) (sym h)
@@ -129,8 +109,9 @@ module _ (k : Sort) (p : Pool) (room n : ℕ) (s : Reached) (c : Columns) where
     unfolding placed
     good next h flags names types firsts counts titles bodies lengths a b =
         let g = whole-of (λ (f : Many Attribute ℕ). f .end) framing next h in
-        let z = whole m (g .0) e (g .1 ∙ sym same) in
+        let z = whole (g .0) (g .1 ∙ sym same) in
         let x = got-column (λ a. a .name) (c .attributes) titles (g .0) (g .1) (b .0) in
         let y = got-column (λ a. a .start) (c .bodies) bodies (g .0) (g .1) (b .1) in
         let v = got-column (λ a. a .size) (c .lengths) lengths (g .0) (g .1) (b .2) in
-        rw (← z) (λ i. accept (record { at = sym (g .2) i; used = s .used + m .count }), λ i. record { flags = a .0 i; names = a .1 i; types = a .2 i; firsts = a .3 i; counts = a .4 i; attributes = x i; bodies = y i; lengths = v i })
+        let o : record { flags = flags; names = names; types = types; firsts = firsts; counts = counts; attributes = titles; bodies = bodies; lengths = lengths } ≡ afterOne c n (s .used) next-of = rw (← z) (λ i. record { flags = a .0 i; names = a .1 i; types = a .2 i; firsts = a .3 i; counts = a .4 i; attributes = x i; bodies = y i; lengths = v i }) in
+        (rw (← z) (λ i. accept (record { at = sym (g .2) i; used = s .used + m .count })), λ w q. o ∙ ap (afterOne c n (s .used)) (sym q))
