@@ -5,9 +5,8 @@ use Prim.Native.Nat.{ℕ}
 use Rattle.reads.specs.Promise.{Is, AtMostOne, one-outcome, readingCheck}
 use Rattle.reads.specs.Tables.{after}
 use Rattle.reads.specs.declared.CheckAnswer.{CheckAnswer}
-use Rattle.pool.specs.Pool.{readPool}
-use Rattle.afresh.specs.Afresh.{afresh}
+use Rattle.afresh.specs.Afresh.{afresh, taken}
 
 pub check-afresh-once : (s table : List ℕ) (room : ℕ) → AtMostOne {R = record { answer : CheckAnswer; table : List ℕ }}
-    (λ o. Is readingCheck (afresh s table room) (o .answer) × (o .table ≡ after 0 (λ w. w .pool .cells) room (readPool s room)))
-check-afresh-once s table room = one-outcome readingCheck (afresh s table room) (after 0 (λ w. w .pool .cells) room (readPool s room))
+    (λ o. Is readingCheck (afresh s table room) (o .answer) × (o .table ≡ after 0 (λ w. w .pool .cells) room (taken s table room)))
+check-afresh-once s table room = one-outcome readingCheck (afresh s table room) (after 0 (λ w. w .pool .cells) room (taken s table room))

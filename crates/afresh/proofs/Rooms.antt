@@ -1,23 +1,19 @@
 -- Room for one slot more than the count is room enough: more changes nothing. Assumes nothing.
-use mathlib.Core.Path.{_≡_, refl, ap, sym, _∙_}
+use mathlib.Core.Path.{_≡_, refl, ap}
 use mathlib.Core.Bool.{Bool, true, false}
 use mathlib.Core.List.{List, [], _∷_, _++_}
-use Prim.Native.Nat.{ℕ, zero, suc, _+_, _-_, _/_, _≤_, _<_, min}
+use Prim.Native.Nat.{ℕ, zero, suc, _+_, _-_, _<_, min}
 use native.Mathlib.Omega.{arith}
-use lib.ListN.{length, length-append}
+use lib.ListN.{length}
 use lib.Dec.{ltb}
 use borrow.Author.Tests.{lt-ltb, ltb-true, ltb-false}
-use Rattle.reads.specs.Answer.{Answer, accept, refuse, _>>=_}
 use Rattle.reads.specs.Bytes.{num2}
+use Rattle.reads.proofs.Answers.{alike}
+use Rattle.reads.proofs.Tables.{longer}
 use Rattle.pool.specs.declared.Header.{Header}
 use Rattle.pool.specs.Pool.{slotAt, entries, allEntries, headerOf, readPool}
 use Rattle.pool.proofs.Slots.{header-is}
 use Rattle.checks.specs.Checks.{pool}
-
--- the same line first, and then lines that agree on what it gives
-alike : {A B : Type 0} (x : Answer A) (f g : A → Answer B) → ((a : A) → accept a ≡ x → f a ≡ g a) → (x >>= f) ≡ (x >>= g)
-alike (accept a) f g h = h a refl
-alike (refuse nr place) f g h = refl
 
 module _ (s : List ℕ) (major q r : ℕ) where
   slot-same : (n : ℕ) (owed : Bool) (at : ℕ) → n < q → n < r → slotAt s major q n owed at ≡ slotAt s major r n owed at
@@ -31,7 +27,7 @@ module _ (s : List ℕ) (major q r : ℕ) where
   entries-same (suc k) owed cells at a b =
       rw (slot-same (length cells) owed at (omega arith) (omega arith))
       (alike (slotAt s major r (length cells) owed at) _ _ (λ e _.
-      let m : length (cells ++ e .cell ∷ []) ≡ length cells + 1 = simp length-append in
+      let m = longer cells (e .cell) in
       entries-same k (e .wide) (cells ++ e .cell ∷ []) (e .next) (omega arith) (omega arith)))
 
   all-same : (count : ℕ) → count < q → count < r → allEntries s major count q ≡ allEntries s major count r

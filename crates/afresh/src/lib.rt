@@ -4,28 +4,13 @@ use pool::PoolAnswer;
 use reads::CheckAnswer;
 use reads::Refusal;
 ghost use mathlib.Core.Path.{_≡_};
-ghost use lib.Dec.{eqb};
 ghost use lib.ListN.{length};
-ghost use Rattle.reads.specs.Answer.{require};
 ghost use Rattle.reads.specs.Promise.{Is, readingCheck};
 ghost use Rattle.reads.specs.Tables.{after};
-ghost use Rattle.pool.specs.Pool.{seen, readPool};
+ghost use Rattle.pool.specs.Pool.{seen};
 ghost use Rattle.handed.specs.Handed.{agree};
 ghost use Rattle.cells.specs.Cells.{cellsIn};
-ghost use Rattle.afresh.specs.Afresh.{afresh};
-
-// That cell i of a handed table is the one that the file gives.
-fn same_cell(given: u32, made: u32, i: usize) -> CheckAnswer
-    ensures { λ r. ⌜ Is readingCheck (require (eqb given made) 12 i) r ⌝ }
-{
-    if given == made {
-        return CheckAnswer::Fine;
-    }
-    CheckAnswer::Refused(Refusal {
-        number: 12,
-        place: i,
-    })
-}
+ghost use Rattle.afresh.specs.Afresh.{afresh, taken};
 
 // That a handed table that is bytes agrees with the cells of the slots, and is zero past them.
 fn check_bytes(file: &[u8], major: u16, cells: &[u32], slots: usize, table: &[u8]) -> CheckAnswer
@@ -34,7 +19,7 @@ fn check_bytes(file: &[u8], major: u16, cells: &[u32], slots: usize, table: &[u8
     let end = table.len() / 4;
     let mut i = 0;
     while i < end {
-        match same_cell(
+        match handed::same_cell(
             cells::cell_at(table, i),
             slot::cell_of(file, major, cells, slots, i),
             i,
@@ -56,13 +41,19 @@ fn check_bytes(file: &[u8], major: u16, cells: &[u32], slots: usize, table: &[u8
 }
 
 // The entries, read afresh into the lent cells, and 12 where the handed table is not these. What the entries break is refused as they
-// are read; of the pool's checks nothing is done yet.
+// are read; of the pool's checks nothing is done yet. After a refusal the cells are zero.
 pub fn check_afresh(file: &[u8], table: &[u8], cells: &mut [u32]) -> CheckAnswer
     ensures answer { λ r. ⌜ Is readingCheck (afresh (now (file .entry)) (cellsIn (now (table .entry))) (length (now (cells .entry)))) r ⌝ }
-    ensures cells { λ r. ⌜ now (cells .exit) ≡ after 0 (λ w. w .pool .cells) (length (now (cells .entry))) (readPool (now (file .entry)) (length (now (cells .entry)))) ⌝ }
+    ensures cells { λ r. ⌜ now (cells .exit) ≡ after 0 (λ w. w .pool .cells) (length (now (cells .entry))) (taken (now (file .entry)) (cellsIn (now (table .entry))) (length (now (cells .entry)))) ⌝ }
 {
     match pool::read_entries(file, cells) {
         PoolAnswer::Refused(r) => CheckAnswer::Refused(r),
-        PoolAnswer::Accepted(h) => check_bytes(file, h.major, cells, h.slots, table),
+        PoolAnswer::Accepted(h) => match check_bytes(file, h.major, cells, h.slots, table) {
+            CheckAnswer::Refused(r) => {
+                reads::clear(cells);
+                CheckAnswer::Refused(r)
+            }
+            CheckAnswer::Fine => CheckAnswer::Fine,
+        },
     }
 }

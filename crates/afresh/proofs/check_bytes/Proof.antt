@@ -3,23 +3,24 @@ use borrow.Author.Needs.{needs}
 use mathlib.Core.Path.{_≡_, refl, sym, _∙_}
 use Prim.Native.Nat.{_-_}
 use native.Mathlib.Nat.{sub-zero}
-use lib.ListN.{length}
 use Rattle.reads.specs.Answer.{each}
 use Rattle.reads.specs.Promise.{readingCheck}
 use Rattle.reads.proofs.Answers.{got, each-go, each-stop, each-done}
 use Rattle.pool.specs.Pool.{seen}
-use Rattle.afresh.proofs.Bytes.{sameAt, differs, short, alike}
+use Rattle.handed.proofs.Handed.{sameAt}
+use Rattle.cells.specs.Cells.{cellsIn}
+use Rattle.afresh.proofs.Bytes.{differs, short, alike}
 use Rattle.afresh.proofs.check_bytes.Statement.{statement}
 use Rattle.afresh.proofs.check_bytes.Tie as tie
 use Rattle.afresh.proofs.check_bytes.Reads as reads
 use Rattle.afresh.proofs.check_bytes.Lts as lts
 use Rattle.cells.proofs.cell_at.Reads as cell-at-reads
-use Rattle.afresh.proofs.same_cell.Reads as same-cell-reads
+use Rattle.handed.proofs.same_cell.Reads as same-cell-reads
 use Rattle.slot.proofs.cell_of.Reads as cell-of-reads
 use Rattle.slot.proofs.slots_of.Reads as slots-of-reads
 
 abbrev Inv-loop : tie.InvT-loop
-Inv-loop file major cells slots table end i₀ i = each (end - i) i (sameAt (seen file major cells slots .cells) table) ≡ each end 0 (sameAt (seen file major cells slots .cells) table)
+Inv-loop file major cells slots table end i₀ i = each (end - i) i (sameAt (seen file major cells slots .cells) (cellsIn table)) ≡ each end 0 (sameAt (seen file major cells slots .cells) (cellsIn table))
 
 abbrev μ-loop : tie.MeasureT-loop
 μ-loop file major cells slots table end i₀ i = end - i
