@@ -1,43 +1,44 @@
--- A table of records that is filled from the front, one store a turn. Assumes nothing.
+-- A table of records that is filled from the front, one store a turn: f says each. Assumes nothing.
 use mathlib.Core.Path.{_≡_, refl, sym, ap, _∙_}
 use Prim.Native.Nat.{ℕ, zero, suc, _+_, _≤_}
 use native.Mathlib.Nat.{le-of-lt, le-refl, add-zero, zero-add, add-suc, suc-add}
 use mathlib.Core.List.{List, _∷_, _++_, append-nil}
 use lib.ListN.{length, getD, set, drop, length-set, drop-of-length-le}
 use lib.Seq.{drop-cons, set-at}
-use Rattle.records.specs.declared.Member.{Member}
-use Rattle.records.specs.Records.{Numbers, memberOf, membersFrom}
+use Rattle.records.specs.Records.{recordsFrom}
 
-module _ (cs : Numbers) (xs : List Member) where
-  -- xs after i turns
-  unfoldable pub fill : ℕ → List Member
-  fill zero = xs
-  fill (suc i) = set (fill i) i (memberOf cs i)
+module _ {A : Type 0} (f : ℕ → A) where
+  module _ (xs : List A) where
+    -- xs after i turns
+    unfoldable pub fill : ℕ → List A
+    fill zero = xs
+    fill (suc i) = set (fill i) i (f i)
 
-  pub length-fill : (i : ℕ) → length (fill i) ≡ length xs
-  unfolding fill
-  length-fill zero = refl
-  length-fill (suc i) = length-set (fill i) i (memberOf cs i) ∙ length-fill i
+    pub length-fill : (i : ℕ) → length (fill i) ≡ length xs
+    unfolding fill
+    length-fill zero = refl
+    length-fill (suc i) = length-set (fill i) i (f i) ∙ length-fill i
 
-length-from : (cs : Numbers) (k i : ℕ) → length (membersFrom cs k i) ≡ i
-unfolding membersFrom
-length-from cs k zero = refl
-length-from cs k (suc i) = ap suc (length-from cs (suc k) i)
+  length-from : (k i : ℕ) → length (recordsFrom f k i) ≡ i
+  unfolding recordsFrom
+  length-from k zero = refl
+  length-from k (suc i) = ap suc (length-from (suc k) i)
 
--- one record more, at the end
-from-snoc : (cs : Numbers) (k i : ℕ) (ys : List Member) → membersFrom cs k i ++ (memberOf cs (k + i) ∷ ys) ≡ membersFrom cs k (suc i) ++ ys
-unfolding membersFrom
-from-snoc cs k zero ys = ap (λ (j : ℕ). memberOf cs j ∷ ys) (add-zero k)
-from-snoc cs k (suc i) ys = ap (λ (l : List Member). memberOf cs k ∷ l) (ap (λ (j : ℕ). membersFrom cs (suc k) i ++ (memberOf cs j ∷ ys)) (add-suc k i ∙ sym (suc-add k i)) ∙ from-snoc cs (suc k) i ys)
+  -- one record more, at the end
+  from-snoc : (k i : ℕ) (ys : List A) → recordsFrom f k i ++ (f (k + i) ∷ ys) ≡ recordsFrom f k (suc i) ++ ys
+  unfolding recordsFrom
+  from-snoc k zero ys = ap (λ (j : ℕ). f j ∷ ys) (add-zero k)
+  from-snoc k (suc i) ys = ap (λ (l : List A). f k ∷ l) (ap (λ (j : ℕ). recordsFrom f (suc k) i ++ (f j ∷ ys)) (add-suc k i ∙ sym (suc-add k i)) ∙ from-snoc (suc k) i ys)
 
-filled-to : (cs : Numbers) (xs : List Member) (i : ℕ) → i ≤ length xs → fill cs xs i ≡ membersFrom cs 0 i ++ drop i xs
-unfolding fill membersFrom
-filled-to cs xs zero h = refl
-filled-to cs xs (suc i) h =
-    ap (λ (l : List Member). set l i (memberOf cs i)) (filled-to cs xs i (le-of-lt h) ∙ ap (λ (l : List Member). membersFrom cs 0 i ++ l) (drop-cons xs i (memberOf cs i) h))
-    ∙ set-at (membersFrom cs 0 i) (getD xs i (memberOf cs i)) (drop (suc i) xs) (memberOf cs i) i (length-from cs 0 i)
-    ∙ ap (λ (j : ℕ). membersFrom cs 0 i ++ (memberOf cs j ∷ drop (suc i) xs)) (sym (zero-add i))
-    ∙ from-snoc cs 0 i (drop (suc i) xs)
+  module _ (xs : List A) where
+    filled-to : (i : ℕ) → i ≤ length xs → fill xs i ≡ recordsFrom f 0 i ++ drop i xs
+    unfolding fill recordsFrom
+    filled-to zero h = refl
+    filled-to (suc i) h =
+        ap (λ (l : List A). set l i (f i)) (filled-to i (le-of-lt h) ∙ ap (λ (l : List A). recordsFrom f 0 i ++ l) (drop-cons xs i (f i) h))
+        ∙ set-at (recordsFrom f 0 i) (getD xs i (f i)) (drop (suc i) xs) (f i) i (length-from 0 i)
+        ∙ ap (λ (j : ℕ). recordsFrom f 0 i ++ (f j ∷ drop (suc i) xs)) (sym (zero-add i))
+        ∙ from-snoc 0 i (drop (suc i) xs)
 
-pub filled : (cs : Numbers) (xs : List Member) → fill cs xs (length xs) ≡ membersFrom cs 0 (length xs)
-filled cs xs = filled-to cs xs (length xs) (le-refl (length xs)) ∙ ap (λ (l : List Member). membersFrom cs 0 (length xs) ++ l) (drop-of-length-le xs (le-refl (length xs))) ∙ append-nil (membersFrom cs 0 (length xs))
+    pub filled : fill xs (length xs) ≡ recordsFrom f 0 (length xs)
+    filled = filled-to (length xs) (le-refl (length xs)) ∙ ap (λ (l : List A). recordsFrom f 0 (length xs) ++ l) (drop-of-length-le xs (le-refl (length xs))) ∙ append-nil (recordsFrom f 0 (length xs))

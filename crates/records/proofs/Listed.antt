@@ -1,23 +1,31 @@
--- What the records are where the numbers are those of listed members: each slice holds one number of each member, in order, and zeros up to its end, as after a class that was accepted. The table then holds a record for each member, in order, and records of zeros. Assumes nothing.
+-- What the records are where the numbers are those of listed members or attributes: each slice holds one number of each, in order, and zeros up to its end, as after a class that was accepted. The table then holds a record for each, in order, and records of zeros. Assumes nothing.
 use mathlib.Core.Path.{_≡_, refl, ap, _∙_}
-use Prim.Native.Nat.{ℕ, zero, suc, _+_, _-_}
+use Prim.Native.Nat.{ℕ, zero, suc, _+_}
 use native.Mathlib.Nat.{zero-add, suc-add}
 use mathlib.Core.List.{List, [], _∷_, _++_, map}
-use lib.ListN.{length, getD, replicate}
+use lib.ListN.{length, replicate}
 use Rattle.reads.specs.Tables.{padded}
+use Rattle.reads.proofs.Tables.{padded-at}
 use Rattle.records.specs.declared.Member.{Member}
-use Rattle.records.specs.Records.{Numbers, memberOf, membersFrom, none}
-use Rattle.records.proofs.Zeros.{zero-at, refused}
+use Rattle.records.specs.declared.Attribute.{Attribute}
+use Rattle.records.specs.Records.{Numbers, memberOf, membersFrom, none, Parts, attributeOf, attributesFrom, noAttribute, recordsFrom}
+use Rattle.records.proofs.Zeros.{all-alike}
 
--- zeros after a list change no number of it
-past : (m : ℕ) (xs : List ℕ) (k : ℕ) → getD (xs ++ replicate m 0) k 0 ≡ getD xs k 0
-past m [] k = zero-at m k
-past m (x ∷ xs) zero = refl
-past m (x ∷ xs) (suc k) = past m xs k
+-- records of what is listed, where `at` says record k of a list, of its first or of the rest, and z past its end
+module _ {W A : Type 0} (at : List W → ℕ → A) (g : W → A) (z : A) (none-at : (k : ℕ) → at [] k ≡ z) (first-at : (w : W) (ws : List W) → at (w ∷ ws) 0 ≡ g w) (later-at : (w : W) (ws : List W) (k : ℕ) → at (w ∷ ws) (suc k) ≡ at ws k) where
+  later : (w : W) (ws : List W) (i n : ℕ) → recordsFrom (at (w ∷ ws)) (suc i) n ≡ recordsFrom (at ws) i n
+  unfolding recordsFrom
+  later w ws i zero = refl
+  later w ws i (suc n) = λ j. later-at w ws i j ∷ later w ws (suc i) n j
 
-past-padded : (a : ℕ) (xs : List ℕ) (k : ℕ) → getD (padded 0 a xs) k 0 ≡ getD xs k 0
-unfolding padded
-past-padded a xs k = past (a - length xs) xs k
+  each : (ws : List W) (m : ℕ) → recordsFrom (at ws) 0 (length ws + m) ≡ map g ws ++ replicate m z
+  unfolding recordsFrom
+  each [] m = ap (recordsFrom (at []) 0) (zero-add m) ∙ all-alike (at []) z none-at 0 m
+  each (w ∷ ws) m = ap (recordsFrom (at (w ∷ ws)) 0) (suc-add (length ws) m) ∙ (λ j. first-at w ws j ∷ (later w ws 0 (length ws + m) ∙ each ws m) j)
+
+  -- ... and f says the same records
+  each-as : (f : ℕ → A) (ws : List W) → ((k : ℕ) → f k ≡ at ws k) → (m : ℕ) → recordsFrom f 0 (length ws + m) ≡ map g ws ++ replicate m z
+  each-as f ws e m = (λ j. recordsFrom (λ k. e k j) 0 (length ws + m)) ∙ each ws m
 
 module _ {W : Type 0} (flags names types firsts counts : W → ℕ) where
   abbrev pub recordOf : W → Member
@@ -32,30 +40,26 @@ module _ {W : Type 0} (flags names types firsts counts : W → ℕ) where
 
   same-at : (ws : List W) (a b c d e k : ℕ) → memberOf (slicesOf ws a b c d e) k ≡ memberOf (numbersOf ws) k
   unfolding memberOf
-  same-at ws a b c d e k = λ j. record { flags = past-padded a (map flags ws) k j; name = past-padded b (map names ws) k j; descriptor = past-padded c (map types ws) k j; «first_attribute» = past-padded d (map firsts ws) k j; attributes = past-padded e (map counts ws) k j }
-
-  same : (ws : List W) (a b c d e i n : ℕ) → membersFrom (slicesOf ws a b c d e) i n ≡ membersFrom (numbersOf ws) i n
-  unfolding membersFrom
-  same ws a b c d e i zero = refl
-  same ws a b c d e i (suc n) = λ j. same-at ws a b c d e i j ∷ same ws a b c d e (suc i) n j
-
-  later-at : (w : W) (ws : List W) (k : ℕ) → memberOf (numbersOf (w ∷ ws)) (suc k) ≡ memberOf (numbersOf ws) k
-  unfolding memberOf
-  later-at w ws k = refl
-
-  later : (w : W) (ws : List W) (i n : ℕ) → membersFrom (numbersOf (w ∷ ws)) (suc i) n ≡ membersFrom (numbersOf ws) i n
-  unfolding membersFrom
-  later w ws i zero = refl
-  later w ws i (suc n) = λ j. later-at w ws i j ∷ later w ws (suc i) n j
-
-  first-at : (w : W) (ws : List W) → memberOf (numbersOf (w ∷ ws)) 0 ≡ recordOf w
-  unfolding memberOf
-  first-at w ws = refl
-
-  each : (ws : List W) (m : ℕ) → membersFrom (numbersOf ws) 0 (length ws + m) ≡ map recordOf ws ++ replicate m none
-  unfolding membersFrom
-  each [] m = ap (membersFrom (numbersOf []) 0) (zero-add m) ∙ refused 0 0 0 0 0 0 m
-  each (w ∷ ws) m = ap (membersFrom (numbersOf (w ∷ ws)) 0) (suc-add (length ws) m) ∙ (λ j. first-at w ws j ∷ (later w ws 0 (length ws + m) ∙ each ws m) j)
+  same-at ws a b c d e k = λ j. record { flags = padded-at a (map flags ws) k j; name = padded-at b (map names ws) k j; descriptor = padded-at c (map types ws) k j; «first_attribute» = padded-at d (map firsts ws) k j; attributes = padded-at e (map counts ws) k j }
 
   pub listed : (ws : List W) (a b c d e m : ℕ) → membersFrom (slicesOf ws a b c d e) 0 (length ws + m) ≡ map recordOf ws ++ replicate m none
-  listed ws a b c d e m = same ws a b c d e 0 (length ws + m) ∙ each ws m
+  unfolding memberOf
+  listed ws a b c d e m = each-as (λ vs. memberOf (numbersOf vs)) recordOf none (λ k. refl) (λ v vs. refl) (λ v vs k. refl) (memberOf (slicesOf ws a b c d e)) ws (same-at ws a b c d e) m
+
+module _ {W : Type 0} (titles bodies lengths : W → ℕ) where
+  abbrev pub attributeRecord : W → Attribute
+  attributeRecord w = record { name = titles w; body = bodies w; length = lengths w }
+
+  abbrev partsOf : List W → Parts
+  partsOf ws = record { titles = map titles ws; bodies = map bodies ws; lengths = map lengths ws }
+
+  abbrev pub attributeSlices : List W → (a b c : ℕ) → Parts
+  attributeSlices ws a b c = record { titles = padded 0 a (map titles ws); bodies = padded 0 b (map bodies ws); lengths = padded 0 c (map lengths ws) }
+
+  same-attribute-at : (ws : List W) (a b c k : ℕ) → attributeOf (attributeSlices ws a b c) k ≡ attributeOf (partsOf ws) k
+  unfolding attributeOf
+  same-attribute-at ws a b c k = λ j. record { name = padded-at a (map titles ws) k j; body = padded-at b (map bodies ws) k j; length = padded-at c (map lengths ws) k j }
+
+  pub attributes-listed : (ws : List W) (a b c m : ℕ) → attributesFrom (attributeSlices ws a b c) 0 (length ws + m) ≡ map attributeRecord ws ++ replicate m noAttribute
+  unfolding attributeOf
+  attributes-listed ws a b c m = each-as (λ vs. attributeOf (partsOf vs)) attributeRecord noAttribute (λ k. refl) (λ v vs. refl) (λ v vs k. refl) (attributeOf (attributeSlices ws a b c)) ws (same-attribute-at ws a b c) m

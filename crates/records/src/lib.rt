@@ -1,7 +1,7 @@
-// Member records: the numbers that a class's members are read into, a slice for each, put together into a lent table of records.
+// Member and attribute records: the numbers that a class's members and attributes are read into, a slice for each, put together into lent tables of records.
 ghost use mathlib.Core.Path.{_≡_};
 ghost use lib.ListN.{length, getD};
-ghost use Rattle.records.specs.Records.{memberOf, membersFrom, none};
+ghost use Rattle.records.specs.Records.{memberOf, membersFrom, none, attributeOf, attributesFrom, noAttribute};
 
 // A member: its flags, the Utf8 slots of its name and descriptor, its first attribute record, and how many it has.
 pub struct Member {
@@ -77,5 +77,58 @@ pub fn record_at(records: &[Member], i: usize) -> Member
         descriptor: 0,
         first_attribute: 0,
         attributes: 0,
+    }
+}
+
+// An attribute: the Utf8 slot of its name, where its body begins in the file, and how long it is.
+pub struct Attribute {
+    pub name: u16,
+    pub body: u32,
+    pub length: u32,
+}
+
+// Attribute i, from a slice for each of its numbers; past the end of a slice its number is 0.
+pub fn attribute_of<'a>(
+    titles: &'a [u16],
+    bodies: &'a [u32],
+    lengths: &'a [u32],
+    i: usize,
+) -> Attribute
+    ensures { λ r. ⌜ r ≡ attributeOf (record { titles = now (titles .entry); bodies = now (bodies .entry); lengths = now (lengths .entry) }) i ⌝ }
+{
+    Attribute {
+        name: number(titles, i),
+        body: long(bodies, i),
+        length: long(lengths, i),
+    }
+}
+
+// The lent table of attribute records, from a slice for each number: every record is written.
+pub fn attribute_records<'a, 'r>(
+    titles: &'a [u16],
+    bodies: &'a [u32],
+    lengths: &'a [u32],
+    records: &'r mut [Attribute],
+)
+    ensures { λ _. ⌜ now (records .exit) ≡ attributesFrom (record { titles = now (titles .entry); bodies = now (bodies .entry); lengths = now (lengths .entry) }) 0 (length (now (records .entry))) ⌝ }
+{
+    let mut i = 0;
+    while i < records.len() {
+        records[i] = attribute_of(titles, bodies, lengths, i);
+        i += 1;
+    }
+}
+
+// Record i of a table of attribute records, and one of zeros past its end.
+pub fn attribute_at(records: &[Attribute], i: usize) -> Attribute
+    ensures { λ r. ⌜ r ≡ getD (now (records .entry)) i noAttribute ⌝ }
+{
+    if i < records.len() {
+        return records[i];
+    }
+    Attribute {
+        name: 0,
+        body: 0,
+        length: 0,
     }
 }

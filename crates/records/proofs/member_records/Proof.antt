@@ -167,7 +167,7 @@ module _ {M : Type 1} (𝓤 : URA M) (H : Heap 𝓤) (A : Atoms 𝓤) (W : Given
 
   -- the list after i turns, and the reference at the list at exit
   abbrev ys : ℕ → List Member
-  ys i = fill cs xs i
+  ys i = fill (memberOf cs) xs i
 
   abbrev y : RefT (List Member)
   y = record { ptr = (b, o); name = γ; now = ys n }
@@ -175,10 +175,10 @@ module _ {M : Type 1} (𝓤 : URA M) (H : Heap 𝓤) (A : Atoms 𝓤) (W : Given
   exits : Room R n → ent 𝓤 (⋆ 𝓤 H A (‵ (fobs γ (codedHoleys R .code (heres R (ys n)))) ∷ ‵ (fbor κ′ (Held R (length (ys n)) b o γ)) ∷ ‵ (flft κ′ q′) ∷ ‵ Own ∷ ‵ (flft κ q) ∷ [])) (Post vunit)
   exits gn =
       qed W (‵ (fobs γ (codedHoleys R .code (heres R (ys n)))) ∷ ‵ (fbor κ′ (Held R (length (ys n)) b o γ)) ∷ ‵ (flft κ′ q′) ∷ ‵ Own ∷ ‵ (flft κ q) ∷ []) ∵
-      suffices ! _ (ends-at 𝓤 H A f.ended stayed (f.clauses 𝓤 H A mem run) W (((κ, (κ′, tt)), (q, (q′, tt)), tt, x, at), tt) vunit tt (tt, (tt, (tt, (tt, (tt, (ys n, tt)))))) (tt, (tt, (tt, (tt, (tt, (length-fill cs xs n, tt))))))) $ says ! (filled cs xs) $
+      suffices ! _ (ends-at 𝓤 H A f.ended stayed (f.clauses 𝓤 H A mem run) W (((κ, (κ′, tt)), (q, (q′, tt)), tt, x, at), tt) vunit tt (tt, (tt, (tt, (tt, (tt, (ys n, tt)))))) (tt, (tt, (tt, (tt, (tt, (length-fill (memberOf cs) xs n, tt))))))) $ says ! (filled (memberOf cs) xs) $
       nothing ! $ move ! (3 ∷ 0 ∷ []) $ join ! $ move ! (4 ∷ 0 ∷ []) $ join ! $ frame ! $
       -- [obs; the borrow; what the numbers own]
-      fjoin ! $ pureI ! (at-slice R y (w ∷ [])) (tt, (tt, tt)) (ap (λ (k : ℕ). sliceVal (b, o) k ∷ []) (sym (length-fill cs xs n)), subst (Room R) (sym (length-fill cs xs n)) gn) $ fjoin ! $
+      fjoin ! $ pureI ! (at-slice R y (w ∷ [])) (tt, (tt, tt)) (ap (λ (k : ℕ). sliceVal (b, o) k ∷ []) (sym (length-fill (memberOf cs) xs n)), subst (Room R) (sym (length-fill (memberOf cs) xs n)) gn) $ fjoin ! $
       nothing ! $ move ! (1 ∷ 0 ∷ []) $ fjoin ! $ move ! (1 ∷ 0 ∷ []) $ use2 W (‵ (onto (fsep (MutSlice (named 1) κ′ R .own y (w ∷ [])) ftrue))) (before (fsep (MutSlice (named 1) κ′ R .own y (w ∷ [])) ftrue)) $ frame ! $ feqI ! (List Val) (vunit ∷ []) (vunit ∷ []) refl $ done !
 
   -- ---- the call
@@ -238,7 +238,7 @@ module _ {M : Type 1} (𝓤 : URA M) (H : Heap 𝓤) (A : Atoms 𝓤) (W : Given
     more : (i : ℕ) (X : SProp 𝓤) → i < n → suc i < 2 ^ 64 → ent 𝓤 (⋆ 𝓤 H A (At (suc i))) X → ent 𝓤 (⋆ 𝓤 H A (At i)) (Wp 𝓤 H C Λ En code.Mir.turn-1 (afterTurn 𝓤 H X Left))
     unfolding afterTurn fill
     more i X small next k =
-        let here = subst (λ (m : ℕ). i < m) (sym (length-fill cs xs i)) small in
+        let here = subst (λ (m : ℕ). i < m) (sym (length-fill (memberOf cs) xs i)) small in
         let sc = scaled-fits i n 16 small (gn .1) in
         let one = subst (λ (m : ℕ). m < 2 ^ 64) (sym (add-one i)) next in
         qed W (At i) ∵ exec ! C Λ En code.Mir.turn-1 (anyQ (afterTurn 𝓤 H X Left)) $
@@ -279,7 +279,7 @@ module _ {M : Type 1} (𝓤 : URA M) (H : Heap 𝓤) (A : Atoms 𝓤) (W : Given
         rewrite ! 3 (λ (t : Bool). ‵ (fat fullShare tyBool l₉ 0 (vbool t))) (le-ltb n n (le-refl n)) refl $
         leaves-loop ! (load ! (from ! (stop !)) (look ! 3 refl)) $ exec ! C Λ En code.Mir.t-3 (atRet En Post) $
         assigns ! (of-opd ! (unit-lit !)) (from ! (stop !)) (init ! 8 refl (tt, tt)) $
-        move ! (0 ∷ 9 ∷ 10 ∷ 11 ∷ []) $ closes-slice ! tt R xs (ys n) (length-fill cs xs n) b o $
+        move ! (0 ∷ 9 ∷ 10 ∷ 11 ∷ []) $ closes-slice ! tt R xs (ys n) (length-fill (memberOf cs) xs n) b o $
         -- [obs; the borrow; its token; _7; _8; _9; _10; _11; _1; _6; _0; what the numbers own; its token; and that each local dies]
         returns ! (look ! 10 refl) $ forget ! 3 refl $ forget ! 4 refl $ forget ! 5 refl $ forget ! 8 refl $ forget ! 9 refl $ forget ! 10 refl $ forget ! 21 refl $ forget ! 22 refl $ forget ! 23 refl $ forget ! 24 refl $
         move ! (10 ∷ 13 ∷ []) $ free1 ! $ move ! (8 ∷ 12 ∷ []) $ free1 ! $ move ! (17 ∷ 21 ∷ []) $ free1 ! $ move ! (17 ∷ 20 ∷ []) $ free1 ! $ move ! (17 ∷ 19 ∷ []) $ free1 ! $ move ! (17 ∷ 18 ∷ []) $ free1 ! $ move ! (8 ∷ 11 ∷ []) $ free1 ! $ move ! (3 ∷ 10 ∷ []) $ free1 ! $ move ! (3 ∷ 9 ∷ []) $ free1 ! $ move ! (3 ∷ 8 ∷ []) $ free1 ! $ move ! (3 ∷ 7 ∷ []) $ free1 ! $ move ! (3 ∷ 6 ∷ []) $ free1 ! $ free0 ! $ by ! (exits gn)
