@@ -133,6 +133,9 @@ cases =
     ∷ case file-O (dependants-of table-O 7 3) (list-is (refuse 7 7) (0 ∷ 0 ∷ 0 ∷ []))  -- O: no slot 7
     ∷ case file-O (dependants-of table-O 0 1) (list-is (accept []) (0 ∷ []))  -- O: slot 0 has none
     ∷ case file-E (dependants-of (0 ∷ 10 ∷ 14 ∷ []) 2 2) (list-is (refuse 12 2) (0 ∷ 0 ∷ []))  -- E: another table
+    ∷ case file-O (dependants-of table-O 5 2) (list-is (refuse 13 4) (0 ∷ 0 ∷ []))  -- O: of 5, two cells lent
+    ∷ case file-O (dependants-of table-O 6 2) (list-is (refuse 13 3) (0 ∷ 0 ∷ []))  -- O: of 6, two cells lent
+    ∷ case (at-major 52 (0 ∷ 3 ∷ 7 ∷ 0 ∷ 2 ∷ 1 ∷ 0 ∷ 1 ∷ 0x41 ∷ 0xFF ∷ [])) (read-with 3) (P-is (accept 3) (0 ∷ 10 ∷ 13 ∷ []))  -- a byte after the pool of E
     ∷ []
 
 -- each case of a table answers as it says
@@ -146,4 +149,4 @@ _&_ a b = (a, b)
 
 pub A-to-P : Shown cases
 unfolding oneOf noneOf before same begins formLength covered textForm isText unqualified onto split allOf binary follows walked whole isInit isClinit methodName escape moduleByte moduleForm moduleName stands classLength onMore baseLength typeLength depth fieldDescriptor arrayDescriptor returnDescriptor closing returned methodDescriptor returnsVoid takesNothing within u1 u2 u4 skipped padded each rowOf secondWidth wide entryAt slotAt entries allEntries headerOf readPool tagOf field bytesOf reference references has ofKind handled handle textAt textOf className classText typed member nameAndType obey checked pool agree judged handed lookup asked nameSlot memberOf memberAt handleAt twos single twofold numberAt literalOf literalAt wordAt bytesAt named refersTo anyOf reaches sieve dependantsIn dependantsAt
-A-to-P = refl & refl & refl & refl & refl & refl & refl & refl & refl & refl & refl & refl & refl & refl & refl & refl & refl & refl & refl & refl & refl & refl & refl & refl & refl & refl & refl & refl & refl & refl & refl & refl & refl & refl & refl & refl & refl & refl & refl & refl & refl & refl & refl & refl & refl & refl & refl & refl & refl & refl & tt
+A-to-P = refl & refl & refl & refl & refl & refl & refl & refl & refl & refl & refl & refl & refl & refl & refl & refl & refl & refl & refl & refl & refl & refl & refl & refl & refl & refl & refl & refl & refl & refl & refl & refl & refl & refl & refl & refl & refl & refl & refl & refl & refl & refl & refl & refl & refl & refl & refl & refl & refl & refl & refl & refl & refl & tt

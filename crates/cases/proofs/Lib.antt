@@ -1,0 +1,3 @@
+pub mod Wrongs
+pub mod Cheats
+pub mod Modules

@@ -1,0 +1,16 @@
+pub mod Only
+pub mod Numbered
+pub mod NumberedLookups
+pub mod NumberedClass
+pub mod Places
+pub mod PlacesClass
+pub mod Kept
+pub mod Agreement
+pub mod Twelve
+pub mod Roomy
+pub mod OnBytes
+pub mod Ordered
+pub mod Given
+pub mod Demand1
+pub mod Demand2
+pub mod Demand3
