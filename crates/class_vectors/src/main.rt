@@ -6,36 +6,16 @@ ghost use mathlib.Core.Path.{_≡_};
 ghost use Prim.Native.Nat.{_≤_};
 ghost use lib.ListN.{length, take};
 
-fn print_field(n: u64) {
-    script::print(b" ");
-    script::print_number(n);
-}
-
-fn print_cell(n: u32) {
-    print_field(n as u64);
-}
-
-fn print_slot(n: u16) {
-    print_field(n as u64);
-}
-
+// A column: its name and its cells.
 fn print_cells(name: &[u8], cells: &[u32]) {
     script::print(name);
-    let mut i = 0;
-    while i < cells.len() {
-        print_cell(cells[i]);
-        i += 1;
-    }
+    script::print_cells(cells);
     script::print(b"\n");
 }
 
 fn print_list(name: &[u8], list: &[u16]) {
     script::print(name);
-    let mut i = 0;
-    while i < list.len() {
-        print_slot(list[i]);
-        i += 1;
-    }
+    script::print_list(list);
     script::print(b"\n");
 }
 
@@ -43,25 +23,25 @@ fn print_class(c: Class) {
     let a = c.after;
     let l = a.lists;
     script::print(b"accepted");
-    print_field(c.slots as u64);
-    print_field(c.minor as u64);
-    print_field(c.major as u64);
-    print_field(a.flags as u64);
-    print_field(a.this as u64);
-    print_field(a.parent as u64);
-    print_field(l.interfaces as u64);
-    print_field(l.fields as u64);
-    print_field(l.methods as u64);
-    print_field(l.used as u64);
-    print_field(l.own as u64);
+    script::print_field(c.slots as u64);
+    script::print_field(c.minor as u64);
+    script::print_field(c.major as u64);
+    script::print_field(a.flags as u64);
+    script::print_field(a.this as u64);
+    script::print_field(a.parent as u64);
+    script::print_field(l.interfaces as u64);
+    script::print_field(l.fields as u64);
+    script::print_field(l.methods as u64);
+    script::print_field(l.used as u64);
+    script::print_field(l.own as u64);
 }
 
 fn print_answer(answer: ClassAnswer) {
     match answer {
         ClassAnswer::Refused(r) => {
             script::print(b"refused");
-            print_field(r.number as u64);
-            print_field(r.place as u64);
+            script::print_field(r.number as u64);
+            script::print_field(r.place as u64);
         }
         ClassAnswer::Accepted(c) => {
             print_class(c);
@@ -110,37 +90,12 @@ fn show(
     print_cells(b"  lengths", lengths);
 }
 
-// Sixty cells, three interfaces, four member records, five attribute records.
-fn show_small(file: &[u8]) {
-    let mut table = [0u32; 60];
-    let mut interfaces = [0u16; 3];
-    let mut flags = [0u16; 4];
-    let mut names = [0u16; 4];
-    let mut types = [0u16; 4];
-    let mut firsts = [0u32; 4];
-    let mut counts = [0u16; 4];
-    let mut titles = [0u16; 5];
-    let mut bodies = [0u32; 5];
-    let mut lengths = [0u32; 5];
-    show(
-        file,
-        &mut table,
-        &mut interfaces,
-        &mut flags,
-        &mut names,
-        &mut types,
-        &mut firsts,
-        &mut counts,
-        &mut titles,
-        &mut bodies,
-        &mut lengths,
-    );
-}
-
-// Eighty cells, four interfaces, twenty member records, thirty attribute records.
-fn show_large(file: &[u8]) {
+// Reads a file into tables of so many cells, interfaces, member records and attribute records.
+fn show_in(file: &[u8], cells: usize, interfaces: usize, members: usize, attributes: usize)
+    requires { ⌜ (cells ≤ 80) × (interfaces ≤ 4) × (members ≤ 20) × (attributes ≤ 30) ⌝ }
+{
     let mut table = [0u32; 80];
-    let mut interfaces = [0u16; 4];
+    let mut list = [0u16; 4];
     let mut flags = [0u16; 20];
     let mut names = [0u16; 20];
     let mut types = [0u16; 20];
@@ -151,88 +106,34 @@ fn show_large(file: &[u8]) {
     let mut lengths = [0u32; 30];
     show(
         file,
-        &mut table,
-        &mut interfaces,
-        &mut flags,
-        &mut names,
-        &mut types,
-        &mut firsts,
-        &mut counts,
-        &mut titles,
-        &mut bodies,
-        &mut lengths,
-    );
-}
-
-// Sixty cells, one interface, one member record, one attribute record.
-fn show_tight(file: &[u8]) {
-    let mut table = [0u32; 60];
-    let mut interfaces = [0u16; 1];
-    let mut flags = [0u16; 1];
-    let mut names = [0u16; 1];
-    let mut types = [0u16; 1];
-    let mut firsts = [0u32; 1];
-    let mut counts = [0u16; 1];
-    let mut titles = [0u16; 1];
-    let mut bodies = [0u32; 1];
-    let mut lengths = [0u32; 1];
-    show(
-        file,
-        &mut table,
-        &mut interfaces,
-        &mut flags,
-        &mut names,
-        &mut types,
-        &mut firsts,
-        &mut counts,
-        &mut titles,
-        &mut bodies,
-        &mut lengths,
-    );
-}
-
-// Five cells.
-fn show_short(file: &[u8]) {
-    let mut table = [0u32; 5];
-    let mut interfaces = [0u16; 1];
-    let mut flags = [0u16; 1];
-    let mut names = [0u16; 1];
-    let mut types = [0u16; 1];
-    let mut firsts = [0u32; 1];
-    let mut counts = [0u16; 1];
-    let mut titles = [0u16; 1];
-    let mut bodies = [0u32; 1];
-    let mut lengths = [0u32; 1];
-    show(
-        file,
-        &mut table,
-        &mut interfaces,
-        &mut flags,
-        &mut names,
-        &mut types,
-        &mut firsts,
-        &mut counts,
-        &mut titles,
-        &mut bodies,
-        &mut lengths,
+        &mut table[..cells],
+        &mut list[..interfaces],
+        &mut flags[..members],
+        &mut names[..members],
+        &mut types[..members],
+        &mut firsts[..members],
+        &mut counts[..members],
+        &mut titles[..attributes],
+        &mut bodies[..attributes],
+        &mut lengths[..attributes],
     );
 }
 
 // Reads a file into tables as large as a word says.
 fn show_as(size: &[u8], file: &[u8]) {
     if script::is(size, b"short") {
-        show_short(file);
+        show_in(file, 5, 1, 1, 1);
         return;
     }
     if script::is(size, b"tight") {
-        show_tight(file);
+        show_in(file, 60, 1, 1, 1);
         return;
     }
     if script::is(size, b"large") {
-        show_large(file);
+        show_in(file, 80, 4, 20, 30);
         return;
     }
-    show_small(file);
+    show_in(file, 60, 3, 4, 5);
 }
 
 // The bytes that a line gives, in hexadecimal or as a file's name: how many they are.

@@ -22,19 +22,6 @@ fn print_answer(answer: DependantsAnswer) {
     script::print(b":");
 }
 
-fn print_cell(n: u16) {
-    script::print(b" ");
-    script::print_number(n as u64);
-}
-
-fn print_list(list: &[u16]) {
-    let mut i = 0;
-    while i < list.len() {
-        print_cell(list[i]);
-        i += 1;
-    }
-}
-
 // Cells that a call must write or make zero.
 fn soil(list: &mut [u16]) {
     let mut i = 0;
@@ -48,7 +35,7 @@ fn ask(file: &[u8], table: &[u32], slot: u32, list: &mut [u16]) {
     soil(list);
     let answer = dependants::dependants(file, table, slot, list);
     print_answer(answer);
-    print_list(list);
+    script::print_list(list);
     script::print(b"\n");
 }
 

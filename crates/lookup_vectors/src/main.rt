@@ -41,15 +41,10 @@ fn slot_of(word: &[u8]) -> u32 {
     n as u32
 }
 
-fn print_next(n: u64) {
-    script::print(b" ");
-    script::print_number(n);
-}
-
 fn print_refusal(r: Refusal) {
     script::print(b"refused");
-    print_next(r.number as u64);
-    print_next(r.place as u64);
+    script::print_field(r.number as u64);
+    script::print_field(r.place as u64);
 }
 
 fn print_slot(a: Num2) {
@@ -57,23 +52,23 @@ fn print_slot(a: Num2) {
         Num2::Refused(r) => print_refusal(r),
         Num2::Got(m) => {
             script::print(b"slot");
-            print_next(m as u64);
+            script::print_field(m as u64);
         }
     }
 }
 
 fn print_named(n: Named) {
     script::print(b"named");
-    print_next(n.name as u64);
-    print_next(n.descriptor as u64);
+    script::print_field(n.name as u64);
+    script::print_field(n.descriptor as u64);
 }
 
 fn print_member(m: Member) {
     script::print(b"member");
-    print_next(m.tag as u64);
-    print_next(m.class as u64);
-    print_next(m.name as u64);
-    print_next(m.descriptor as u64);
+    script::print_field(m.tag as u64);
+    script::print_field(m.class as u64);
+    script::print_field(m.name as u64);
+    script::print_field(m.descriptor as u64);
 }
 
 fn print_name_and_type(a: NamedAnswer) {
@@ -95,7 +90,7 @@ fn print_handle(a: HeldAnswer) {
         HeldAnswer::Refused(r) => print_refusal(r),
         HeldAnswer::Got(h) => {
             script::print(b"kind");
-            print_next(h.kind as u64);
+            script::print_field(h.kind as u64);
             script::print(b" ");
             let m = h.member;
             print_member(m);
@@ -108,7 +103,7 @@ fn print_indexed(a: IndexedAnswer) {
         IndexedAnswer::Refused(r) => print_refusal(r),
         IndexedAnswer::Got(x) => {
             script::print(b"index");
-            print_next(x.index as u64);
+            script::print_field(x.index as u64);
             script::print(b" ");
             let n = x.named;
             print_named(n);
@@ -136,35 +131,35 @@ fn print_literal(a: LiteralAnswer) {
     match a {
         LiteralAnswer::Integer(x) => {
             script::print(b"integer");
-            print_next(bits);
+            script::print_field(bits);
             print_sign(x < 0);
         }
         LiteralAnswer::Float(x) => {
             script::print(b"float");
-            print_next(bits);
+            script::print_field(bits);
             print_sign(x < 0.0);
         }
         LiteralAnswer::FloatNan(_) => {
             script::print(b"float that is no number");
-            print_next(bits);
+            script::print_field(bits);
         }
         LiteralAnswer::Long(x) => {
             script::print(b"long");
-            print_next(bits);
+            script::print_field(bits);
             print_sign(x < 0);
         }
         LiteralAnswer::Double(x) => {
             script::print(b"double");
-            print_next(bits);
+            script::print_field(bits);
             print_sign(x < 0.0);
         }
         LiteralAnswer::DoubleNan(_) => {
             script::print(b"double that is no number");
-            print_next(bits);
+            script::print_field(bits);
         }
         LiteralAnswer::Text(_) => {
             script::print(b"string");
-            print_next(bits);
+            script::print_field(bits);
         }
         LiteralAnswer::Refused(r) => print_refusal(r),
     }

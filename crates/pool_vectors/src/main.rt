@@ -22,11 +22,7 @@ fn lent(cells: &[u32], word: &[u8]) -> usize
     up_to(cells.len(), word)
 }
 
-// A cell as a number to print, and whether it is not 0.
-fn value(cell: u32) -> u64 {
-    cell as u64
-}
-
+// Whether a cell is not 0.
 fn is_used(cell: u32) -> usize
     ensures { λ r. ⌜ r ≤ 1 ⌝ }
 {
@@ -53,20 +49,11 @@ fn print_answer(answer: PoolAnswer) {
     }
 }
 
-fn print_cells(table: &[u32]) {
-    let mut i = 0;
-    while i < table.len() {
-        script::print(b" ");
-        script::print_number(value(table[i]));
-        i += 1;
-    }
-}
-
 // The last two cells.
 fn print_last(table: &[u32]) {
     if 1 < table.len() {
         let last = table.len() - 2;
-        print_cells(&table[last..]);
+        script::print_cells(&table[last..]);
     }
 }
 
@@ -87,7 +74,7 @@ fn used(table: &[u32]) -> usize
 fn read(file: &[u8], table: &mut [u32]) {
     print_answer(checks::read_pool(file, table));
     script::print(b" |");
-    print_cells(table);
+    script::print_cells(table);
     script::print(b"\n");
 }
 

@@ -187,6 +187,38 @@ pub fn print_number(n: u64) {
     io::print_decimal(1, n);
 }
 
+// Writes a number behind a space.
+pub fn print_field(n: u64) {
+    print(b" ");
+    print_number(n);
+}
+
+fn print_cell(n: u32) {
+    print_field(n as u64);
+}
+
+fn print_slot(n: u16) {
+    print_field(n as u64);
+}
+
+// Writes the cells of a table so.
+pub fn print_cells(table: &[u32]) {
+    let mut i = 0;
+    while i < table.len() {
+        print_cell(table[i]);
+        i += 1;
+    }
+}
+
+// And those of a list.
+pub fn print_list(list: &[u16]) {
+    let mut i = 0;
+    while i < list.len() {
+        print_slot(list[i]);
+        i += 1;
+    }
+}
+
 // Writes `yes` or `no`.
 pub fn print_verdict(holds: bool) {
     if holds {

@@ -1,22 +1,18 @@
--- `class_vectors::print_cells` meets its contract. Assumes nothing.
-use Prim.Native.Nat.{_-_, _≤_}
-use lib.ListN.{length}
+-- `script::print_cells` meets its contract. Assumes nothing.
 use borrow.Author.Needs.{needs}
-use Rattle.class_vectors.proofs.print_cells.Statement.{statement}
-use Rattle.class_vectors.proofs.print_cells.Tie as tie
-use Rattle.class_vectors.proofs.print_cells.Reads as reads
-use Rattle.class_vectors.proofs.print_cells.Lts as lts
-use Rattle.class_vectors.proofs.print_cell.Reads as print-cell-reads
-use Rattle.script.proofs.print.Reads as print-reads
+use Prim.Native.Nat.{_-_}
+use lib.ListN.{length}
+use Rattle.script.proofs.print_cells.Statement.{statement}
+use Rattle.script.proofs.print_cells.Tie as tie
+use Rattle.script.proofs.print_cells.Reads as reads
+use Rattle.script.proofs.print_cells.Lts as lts
+use Rattle.script.proofs.print_cell.Reads as print-cell-reads
 
 abbrev Inv-loop : tie.InvT-loop
-Inv-loop name cells i₀ t4 i = i ≤ length cells
+Inv-loop table i₀ i = Unit {0}
 
 abbrev μ-loop : tie.MeasureT-loop
-μ-loop name cells i₀ t4 i = length cells - i
-
-print-requires : tie.Need-print-requires Inv-loop μ-loop
-print-requires c κs = search needs
+μ-loop table i₀ i = length table - i
 
 loop-holds : tie.Need-loop-holds Inv-loop μ-loop
 loop-holds c = search needs
@@ -39,12 +35,6 @@ loop-less c = search needs
 loop-again : tie.Need-loop-again Inv-loop μ-loop
 loop-again c = search needs
 
-slice-aggregate-print : tie.Need-slice-aggregate-print Inv-loop μ-loop
-slice-aggregate-print c = search needs
-
-print-requires-2 : tie.Need-print-requires-2 Inv-loop μ-loop
-print-requires-2 c κs = search needs
-
 returns : tie.Need-returns Inv-loop μ-loop
 returns c = search needs
 
@@ -54,7 +44,6 @@ print-cells-spec =
     (tie.spec
     Inv-loop
     μ-loop
-    print-requires
     loop-holds
     mul-print-cell
     shared-slice-read-print-cell
@@ -62,6 +51,4 @@ print-cells-spec =
     add-i
     loop-less
     loop-again
-    slice-aggregate-print
-    print-requires-2
     returns)

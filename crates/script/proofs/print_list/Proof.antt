@@ -1,22 +1,18 @@
--- `class_vectors::print_list` meets its contract. Assumes nothing.
-use Prim.Native.Nat.{_-_, _≤_}
-use lib.ListN.{length}
+-- `script::print_list` meets its contract. Assumes nothing.
 use borrow.Author.Needs.{needs}
-use Rattle.class_vectors.proofs.print_list.Statement.{statement}
-use Rattle.class_vectors.proofs.print_list.Tie as tie
-use Rattle.class_vectors.proofs.print_list.Reads as reads
-use Rattle.class_vectors.proofs.print_list.Lts as lts
-use Rattle.class_vectors.proofs.print_slot.Reads as print-slot-reads
-use Rattle.script.proofs.print.Reads as print-reads
+use Prim.Native.Nat.{_-_}
+use lib.ListN.{length}
+use Rattle.script.proofs.print_list.Statement.{statement}
+use Rattle.script.proofs.print_list.Tie as tie
+use Rattle.script.proofs.print_list.Reads as reads
+use Rattle.script.proofs.print_list.Lts as lts
+use Rattle.script.proofs.print_slot.Reads as print-slot-reads
 
 abbrev Inv-loop : tie.InvT-loop
-Inv-loop name list i₀ t4 i = i ≤ length list
+Inv-loop list i₀ i = Unit {0}
 
 abbrev μ-loop : tie.MeasureT-loop
-μ-loop name list i₀ t4 i = length list - i
-
-print-requires : tie.Need-print-requires Inv-loop μ-loop
-print-requires c κs = search needs
+μ-loop list i₀ i = length list - i
 
 loop-holds : tie.Need-loop-holds Inv-loop μ-loop
 loop-holds c = search needs
@@ -39,12 +35,6 @@ loop-less c = search needs
 loop-again : tie.Need-loop-again Inv-loop μ-loop
 loop-again c = search needs
 
-slice-aggregate-print : tie.Need-slice-aggregate-print Inv-loop μ-loop
-slice-aggregate-print c = search needs
-
-print-requires-2 : tie.Need-print-requires-2 Inv-loop μ-loop
-print-requires-2 c κs = search needs
-
 returns : tie.Need-returns Inv-loop μ-loop
 returns c = search needs
 
@@ -54,7 +44,6 @@ print-list-spec =
     (tie.spec
     Inv-loop
     μ-loop
-    print-requires
     loop-holds
     mul-print-slot
     shared-slice-read-print-slot
@@ -62,6 +51,4 @@ print-list-spec =
     add-i
     loop-less
     loop-again
-    slice-aggregate-print
-    print-requires-2
     returns)
