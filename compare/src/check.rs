@@ -168,9 +168,7 @@ impl Check<'_> {
             Err(r) => Err(*r),
         };
         self.pool_calls(rng, &pool, effort);
-        if ours::CLASSES {
-            self.class_calls(rng, &pool, &class, effort);
-        }
+        self.class_calls(rng, &pool, &class, effort);
         self.lookups(rng, effort);
         if effort.with_crate {
             self.with_crate(rng, &pool, &class, effort);

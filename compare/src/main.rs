@@ -63,7 +63,7 @@ fn main() {
             true
         }
         "fixed" => fixed::run(&options["out"], number("seed", 1)),
-        "bench" => bench::run(&packs, number("rounds", 5) as usize),
+        "bench" => bench::run(&packs, number("rounds", 15) as usize),
         "planted" => {
             let words: Vec<String> = options.iter().filter(|(k, _)| *k != "only").map(|(k, v)| format!("{k}={v}")).collect();
             planted::run("compare/planted.txt", options.get("only").map_or("", |s| s), &words)
@@ -281,10 +281,6 @@ fn run(packs: &[&str], plan: &Plan) -> bool {
         println!("FAILED: never seen: {}", missing.join(", "));
         good = false;
     }
-    if !ours::CLASSES {
-        println!("NOT COMPARED: the library has no luo_class; whole classes were compared between the model and the crate alone");
-        good &= std::env::var_os("COMPARE_NO_CLASS").is_some();
-    }
     good &= totals.differences == 0;
     println!(
         "compare: {} cases, {} differences, {:.0} s{}",
@@ -353,7 +349,7 @@ impl Totals {
         let mut out = vec![];
         for (call, (row, can)) in self.refusals.iter().zip(can).enumerate() {
             for &no in can {
-                if row[no] == 0 && (call != 1 || ours::CLASSES) {
+                if row[no] == 0 {
                     out.push(format!("{} with {no}", guard::CALLS[call]));
                 }
             }

@@ -25,7 +25,6 @@ mod c {
         pub fn luo_text(file: *const u8, n: usize, table: *const u8, m: usize, slot: u32) -> TextAnswer;
         pub fn luo_utf8_part(file: *const u8, n: usize, table: *const u8, m: usize, slot: u32) -> PartAnswer;
         pub fn luo_dependants(file: *const u8, n: usize, table: *const u8, m: usize, slot: u32, list: *mut u8, l: usize) -> ListAnswer;
-        #[cfg(not(no_class))]
         pub fn luo_class(
             file: *const u8,
             n: usize,
@@ -133,7 +132,6 @@ impl<T: Copy + PartialEq> Column<T> {
     pub fn untouched_behind(&self) -> bool {
         self.all[self.lent..].iter().all(|x| *x == self.mark)
     }
-    #[cfg(not(no_class))]
     fn at(&mut self) -> *mut T {
         self.all.as_mut_ptr()
     }
@@ -172,15 +170,6 @@ impl Tables {
     }
 }
 
-/// Whether the library that is linked reads whole classes.
-pub const CLASSES: bool = cfg!(not(no_class));
-
-#[cfg(no_class)]
-pub fn class(_: &[u8], _: &mut Tables) -> ClassAnswer {
-    ClassAnswer::default()
-}
-
-#[cfg(not(no_class))]
 pub fn class(file: &[u8], t: &mut Tables) -> ClassAnswer {
     unsafe {
         c::luo_class(
