@@ -140,36 +140,32 @@ static void put_number(FILE *f, double x, int n) {
 
 static void put_unplain(FILE *f, bool negative, bool nan) { fputs(nan ? "NaN" : negative ? "-Infinity" : "Infinity", f); }
 
+/* The fewest digits that read back as the same finite number; a float's are read back as a float. */
+static int fewest_digits(double x, bool single) {
+    int most = single ? 9 : 17;
+    for (int n = 1; n < most; n++) {
+        char digits[64];
+        snprintf(digits, sizeof digits, "%.*e", n - 1, x);
+        double back = single ? (double)strtof(digits, NULL) : strtod(digits, NULL);
+        if (back == x) return n;
+    }
+    return most;
+}
+
 void out_float(FILE *f, uint32_t bits) {
     float x;
     memcpy(&x, &bits, sizeof x);
-    if (!is_plain_float(bits)) {
+    if (is_plain_float(bits))
+        put_number(f, (double)x, fewest_digits((double)x, true));
+    else
         put_unplain(f, bits >> 31, (bits & 0x7FFFFFu) != 0);
-        return;
-    }
-    char digits[64];
-    int n = 1;
-    for (; n < 9; n++) {
-        snprintf(digits, sizeof digits, "%.*e", n - 1, (double)x);
-        float back = strtof(digits, NULL);
-        if (memcmp(&back, &x, sizeof x) == 0) break;
-    }
-    put_number(f, (double)x, n);
 }
 
 void out_double(FILE *f, uint64_t bits) {
     double x;
     memcpy(&x, &bits, sizeof x);
-    if (!is_plain_double(bits)) {
+    if (is_plain_double(bits))
+        put_number(f, x, fewest_digits(x, false));
+    else
         put_unplain(f, bits >> 63, (bits & 0xFFFFFFFFFFFFFu) != 0);
-        return;
-    }
-    char digits[64];
-    int n = 1;
-    for (; n < 17; n++) {
-        snprintf(digits, sizeof digits, "%.*e", n - 1, x);
-        double back = strtod(digits, NULL);
-        if (memcmp(&back, &x, sizeof x) == 0) break;
-    }
-    put_number(f, x, n);
 }
