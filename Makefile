@@ -1,6 +1,6 @@
 # The commands of the project. `make` or `make help` lists them.
 .DEFAULT_GOAL := help
-.PHONY: help run test lib tool install clean
+.PHONY: help run test lib tool install clean always
 
 VERSION := 0.9.0
 PREFIX ?= /usr/local
@@ -31,7 +31,8 @@ build/libluohtemik.a: $(RATTLE)
 	@cp target/staticlib/libloader.a $@
 	@echo "$@: proved and compiled"
 
-build/luohtemik.pc: Makefile
+# written anew each time, since PREFIX may be another
+build/luohtemik.pc: always
 	@mkdir -p build
 	@printf '%s\n' 'prefix=$(PREFIX)' 'Name: luohtemik' 'Description: Java class files, read by proved calls' 'Version: $(VERSION)' 'Cflags: -I$${prefix}/include' 'Libs: -L$${prefix}/lib -lluohtemik' >$@
 
