@@ -1,5 +1,8 @@
-//! The C interface of the proved library as Rust declarations: the answers of its calls.
+//! The C interface of the proved library as Rust declarations: the answers of its calls, and which of them the
+//! rules give for a pool and for a class.
 //! Each begins with the refusal's number (0 where accepted) and its place; the values are 0 after a refusal.
+
+use crate::model::{Answer, Class, Pool};
 
 macro_rules! answers {
     ($($name:ident { $($field:ident: $t:ty),* })*) => {$(
@@ -23,5 +26,37 @@ answers! {
     ClassAnswer {
         slots: u32, minor: u32, major: u32, flags: u32, this_class: u32, super_class: u32,
         interfaces: u32, fields: u32, methods: u32, member_attributes: u32, class_attributes: u32
+    }
+}
+
+impl PoolAnswer {
+    pub fn of(answer: &Answer<Pool>) -> PoolAnswer {
+        match answer {
+            Ok(p) => PoolAnswer { refusal: 0, place: 0, slots: p.cells.len() as u32, minor: p.minor as u32, major: p.major as u32 },
+            Err(r) => PoolAnswer { refusal: r.no, place: r.place, ..Default::default() },
+        }
+    }
+}
+
+impl ClassAnswer {
+    pub fn of(answer: &Answer<Class>) -> ClassAnswer {
+        match answer {
+            Ok(c) => ClassAnswer {
+                refusal: 0,
+                place: 0,
+                slots: c.pool.cells.len() as u32,
+                minor: c.pool.minor as u32,
+                major: c.pool.major as u32,
+                flags: u32::from(c.flags),
+                this_class: u32::from(c.this),
+                super_class: u32::from(c.super_class),
+                interfaces: c.interfaces.len() as u32,
+                fields: c.fields as u32,
+                methods: c.methods as u32,
+                member_attributes: c.member_attributes as u32,
+                class_attributes: (c.attributes.len() - c.member_attributes) as u32,
+            },
+            Err(r) => ClassAnswer { refusal: r.no, place: r.place, ..Default::default() },
+        }
     }
 }

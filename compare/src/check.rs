@@ -203,13 +203,10 @@ impl Check<'_> {
         let got = ours::pool(file, table.lend());
         self.shared.stage(MODEL);
         self.shared.counted(0, got.refusal);
-        let (answer, cells) = match want {
-            Ok(p) => ((0, 0, p.cells.len(), p.minor, p.major), &p.cells[..]),
-            Err(r) => ((r.no, r.place, 0, 0, 0), &[][..]),
-        };
-        let got_answer = (got.refusal, got.place, got.slots as usize, got.minor as usize, got.major as usize);
-        if got_answer != answer {
-            self.differ(&format!("pool with {room} bytes lent: ours {got_answer:?}, the rules {answer:?}"));
+        let answer = ours::calls::PoolAnswer::of(want);
+        let cells = want.as_ref().map_or(&[][..], |p| &p.cells);
+        if got != answer {
+            self.differ(&format!("pool with {room} bytes lent: ours {got:?}, the rules {answer:?}"));
         } else if table.cells() != bytes_of(cells, room) {
             self.differ(&format!("pool with {room} bytes lent: the table differs"));
         } else if !table.untouched_behind() {
@@ -262,24 +259,7 @@ impl Check<'_> {
         let got = ours::class(file, &mut t);
         self.shared.stage(MODEL);
         self.shared.counted(1, got.refusal);
-        let answer = match want {
-            Ok(c) => ours::calls::ClassAnswer {
-                refusal: 0,
-                place: 0,
-                slots: c.pool.cells.len() as u32,
-                minor: c.pool.minor as u32,
-                major: c.pool.major as u32,
-                flags: u32::from(c.flags),
-                this_class: u32::from(c.this),
-                super_class: u32::from(c.super_class),
-                interfaces: c.interfaces.len() as u32,
-                fields: c.fields as u32,
-                methods: c.methods as u32,
-                member_attributes: c.member_attributes as u32,
-                class_attributes: (c.attributes.len() - c.member_attributes) as u32,
-            },
-            Err(r) => ours::calls::ClassAnswer { refusal: r.no, place: r.place, ..Default::default() },
-        };
+        let answer = ours::calls::ClassAnswer::of(want);
         if got != answer {
             self.differ(&format!("class with room {room:?}: ours {got:?}, the rules {answer:?}"));
             return;

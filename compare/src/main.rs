@@ -109,6 +109,14 @@ struct Part<'a> {
     get: Box<dyn Fn(u64) -> Case + 'a>,
 }
 
+impl<'a> Part<'a> {
+    /// The files of a list, as they are.
+    fn listed(name: &'static str, family: &'static str, files: &'a [Vec<u8>], effort: Effort) -> Part<'a> {
+        let get = move |number: u64| Case { family, number, file: files[number as usize].clone() };
+        Part { name, count: files.len() as u64, effort, get: Box::new(get) }
+    }
+}
+
 fn progress_line(name: &str, start: Instant, shared: &'static Shared, each: Duration) -> impl FnMut(u64) {
     let name = name.to_string();
     let mut last = Instant::now();
@@ -154,24 +162,9 @@ fn run(packs: &[&str], plan: &Plan) -> bool {
     };
     let mutant = inputs::Mutants { seeds: &seeds, compiled: &small, seed, share: 25 };
     let parts = [
-        Part {
-            name: "examples of the rules",
-            count: examples.len() as u64,
-            effort: every,
-            get: Box::new(|n| Case { family: "example", number: n, file: examples[n as usize].clone() }),
-        },
-        Part {
-            name: "put together by hand",
-            count: seeds.len() as u64,
-            effort: Effort { slots: 200, all: true, rooms: 60, with_crate: true },
-            get: Box::new(|n| Case { family: "by hand", number: n, file: seeds[n as usize].clone() }),
-        },
-        Part {
-            name: "at the limits",
-            count: large.len() as u64,
-            effort: Effort { slots: 2, all: false, rooms: 2, with_crate: true },
-            get: Box::new(|n| Case { family: "large", number: n, file: large[n as usize].clone() }),
-        },
+        Part::listed("examples of the rules", "example", &examples, every),
+        Part::listed("put together by hand", "by hand", &seeds, Effort { slots: 200, all: true, rooms: 60, with_crate: true }),
+        Part::listed("at the limits", "large", &large, Effort { slots: 2, all: false, rooms: 2, with_crate: true }),
         Part {
             name: "departures, foretold",
             count: departing.len() as u64,
@@ -182,18 +175,8 @@ fn run(packs: &[&str], plan: &Plan) -> bool {
                 Case { family: "departure", number, file }
             }),
         },
-        Part {
-            name: "members, call sites",
-            count: combined.len() as u64,
-            effort: every,
-            get: Box::new(|n| Case { family: "combined", number: n, file: combined[n as usize].clone() }),
-        },
-        Part {
-            name: "cut at every byte",
-            count: cuts.len() as u64,
-            effort: Effort { slots: 1, all: false, rooms: 1, with_crate: true },
-            get: Box::new(|n| Case { family: "cut", number: n, file: cuts[n as usize].clone() }),
-        },
+        Part::listed("members, call sites", "combined", &combined, every),
+        Part::listed("cut at every byte", "cut", &cuts, Effort { slots: 1, all: false, rooms: 1, with_crate: true }),
         Part {
             name: "every index to every slot",
             count: indices.len(),
@@ -212,12 +195,7 @@ fn run(packs: &[&str], plan: &Plan) -> bool {
             effort: Effort { slots: 6, all: false, rooms: 1, with_crate: true },
             get: Box::new(neutral),
         },
-        Part {
-            name: "compiled, as they are",
-            count: compiled.len() as u64,
-            effort: Effort { slots: 1, all: false, rooms: 0, with_crate: true },
-            get: Box::new(|number| Case { family: "compiled class as it is", number, file: compiled[number as usize].clone() }),
-        },
+        Part::listed("compiled, as they are", "compiled class as it is", &compiled, Effort { slots: 1, all: false, rooms: 0, with_crate: true }),
         Part {
             name: "mutants",
             count: mutants,

@@ -8,7 +8,7 @@ pub mod calls;
 mod model;
 
 use calls::*;
-use model::{Answer, Lookup, Refusal, Room, Rules};
+use model::{Lookup, Refusal, Room, Rules};
 use std::slice::{from_raw_parts, from_raw_parts_mut};
 
 const RULES: Rules =
@@ -37,16 +37,9 @@ fn values(file: &[u8], table: &[u8], which: Lookup, slot: u32) -> Result<[u64; 5
 pub unsafe extern "C" fn luo_pool(file: *const u8, n: usize, table: *mut u8, m: usize) -> PoolAnswer {
     let file = bytes(file, n);
     let table = from_raw_parts_mut(table, m);
-    match model::pool(file, Some(table.len() / 4), RULES) {
-        Ok(p) => {
-            put(table, &p.cells);
-            PoolAnswer { refusal: 0, place: 0, slots: p.cells.len() as u32, minor: p.minor as u32, major: p.major as u32 }
-        }
-        Err(r) => {
-            put(table, &[]);
-            PoolAnswer { refusal: r.no, place: r.place, ..Default::default() }
-        }
-    }
+    let pool = model::pool(file, Some(table.len() / 4), RULES);
+    put(table, pool.as_ref().map_or(&[], |p| &p.cells));
+    PoolAnswer::of(&pool)
 }
 
 macro_rules! lookup {
@@ -144,29 +137,8 @@ pub unsafe extern "C" fn luo_class(
     let members = f.min(a).min(d).min(s).min(k);
     let attributes = x.min(y).min(z);
     let room = Room { cells: t, interfaces: i, members, attributes };
-    let answer: Answer<model::Class> = model::class(bytes(file, n), room, RULES);
-    let (answer, class) = match answer {
-        Ok(c) => (
-            ClassAnswer {
-                refusal: 0,
-                place: 0,
-                slots: c.pool.cells.len() as u32,
-                minor: c.pool.minor as u32,
-                major: c.pool.major as u32,
-                flags: u32::from(c.flags),
-                this_class: u32::from(c.this),
-                super_class: u32::from(c.super_class),
-                interfaces: c.interfaces.len() as u32,
-                fields: c.fields as u32,
-                methods: c.methods as u32,
-                member_attributes: c.member_attributes as u32,
-                class_attributes: (c.attributes.len() - c.member_attributes) as u32,
-            },
-            Some(c),
-        ),
-        Err(r) => (ClassAnswer { refusal: r.no, place: r.place, ..Default::default() }, None),
-    };
-    let c = class.as_ref();
+    let class = model::class(bytes(file, n), room, RULES);
+    let c = class.as_ref().ok();
     let members = || c.iter().flat_map(|c| c.members.iter());
     let attributes = || c.iter().flat_map(|c| c.attributes.iter());
     fill(table, t, c.iter().flat_map(|c| c.pool.cells.iter().copied()));
@@ -179,5 +151,5 @@ pub unsafe extern "C" fn luo_class(
     fill(attribute_names, x, attributes().map(|a| a.name));
     fill(bodies, y, attributes().map(|a| a.body));
     fill(lengths, z, attributes().map(|a| a.length));
-    answer
+    ClassAnswer::of(&class)
 }

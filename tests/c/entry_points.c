@@ -266,6 +266,13 @@ static void lookups(void) {
     SAME("condy", ASK(luo_package_name, 5).slot, 3u);
 }
 
+/* The table as it stands now is not the file's, from that cell on. */
+static void other_table(const char *which, uint64_t cell) {
+    luo_slot_answer a = ASK(luo_class_name, 1);
+    SAME(which, a.refusal, 12u);
+    SAME(which, a.place, cell);
+}
+
 /* A handed table: changed, short, long with zeros, long with more, and a remainder that nobody looks at. */
 static void handed_tables(void) {
     use("E");
@@ -275,21 +282,13 @@ static void handed_tables(void) {
     table_len = 20;
     SAME("long", ASK(luo_class_name, 1).refusal, 0u);
     put_cell(table, 4, 1);
-    a = ASK(luo_class_name, 1);
-    SAME("long, not zero", a.refusal, 12u);
-    SAME("long, not zero", a.place, 4u);
+    other_table("long, not zero", 4);
     table_len = 8;
-    a = ASK(luo_class_name, 1);
-    SAME("short", a.refusal, 12u);
-    SAME("short", a.place, 2u);
+    other_table("short", 2);
     put_cell(table, 1, 11);
-    a = ASK(luo_class_name, 1);
-    SAME("changed and short", a.refusal, 12u);
-    SAME("changed and short", a.place, 1u);
+    other_table("changed and short", 1);
     table_len = 0;
-    a = ASK(luo_class_name, 1);
-    SAME("none", a.refusal, 12u);
-    SAME("none", a.place, 0u);
+    other_table("none", 0);
     use("E");
     for (size_t more = 1; more < 4; more++) {
         table[12 + more - 1] = 0xAB;
