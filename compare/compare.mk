@@ -30,8 +30,12 @@ fixed-list: ## make the fixed list of cases and put it behind the vectors of cra
 	@compare/fixed
 
 bench: build/libluohtemik.a ## speed of the proved library and of the crate on the same files
+ifeq ($(LINK),)
 	@compare/build
 	@compare/packs 1 1
 	@build/compare/compare bench packs=build/compare/jdk-1-1.pack
+else
+	@echo "bench: left out: the library runs under an emulator here, and a time measured so says nothing of it"
+endif
 
 comma := ,

@@ -19,7 +19,8 @@
  *     luo_literal_answer v = luo_literal(file, size, table, 4 * (size_t)p.slots, 7);
  *     if (!v.refusal && v.tag == LUO_DOUBLE) { double d; memcpy(&d, &v.bits, sizeof d); .. }
  *
- * Link with -lluohtemik (pkg-config luohtemik).
+ * The library is x86-64 ELF, on whatever processor it was made, and asks nothing of its host but memset. Calls keep no state: they may
+ * run in threads side by side, each with its own memory to write into. Link with -lluohtemik (pkg-config luohtemik).
  */
 #ifndef LUOHTEMIK_H
 #define LUOHTEMIK_H

@@ -168,6 +168,7 @@ impl Check<'_> {
             Err(r) => Err(*r),
         };
         self.pool_calls(rng, &pool, effort);
+        self.entries_calls(rng, effort);
         self.class_calls(rng, &pool, &class, effort);
         self.lookups(rng, effort);
         if effort.with_crate {
@@ -186,13 +187,35 @@ impl Check<'_> {
         };
         self.pool_call(4 * p + rng.below(4), pool);
         for _ in 0..effort.rooms {
-            let cells = match rng.below(4) {
-                0 => rng.below(4),
-                1 => p.saturating_sub(1 + rng.below(3)),
-                2 => p + rng.below(4),
-                _ => rng.below(p.min(200) + 1),
-            };
+            let cells = some_room(rng, p);
             self.pool_call(4 * cells + rng.below(4), &model::pool(file, Some(cells), Rules::default()));
+        }
+    }
+
+    /// The entries alone: read and not checked, so a pool that is refused with 6 to 11 is accepted here.
+    fn entries_calls(&self, rng: &mut Rng, effort: Effort) {
+        let file = &self.case.file;
+        let read = model::entries(file, None, Rules::default());
+        let p = read.as_ref().map_or(ample(file).cells, |p| p.cells.len());
+        self.entries_call(p, &read);
+        for _ in 0..effort.rooms {
+            let cells = some_room(rng, p);
+            self.entries_call(cells, &model::entries(file, Some(cells), Rules::default()));
+        }
+    }
+
+    fn entries_call(&self, room: usize, want: &Answer<Pool>) {
+        let file = &self.case.file;
+        let mut table = ours::Column::new(room, 0xA5A5_A5A5u32);
+        self.shared.stage(OURS);
+        let got = ours::entries(file, table.lend());
+        self.shared.stage(MODEL);
+        self.shared.counted(1, got.refusal);
+        let answer = ours::calls::PoolAnswer::of(want);
+        if got != answer {
+            self.differ(&format!("entries with {room} cells lent: ours {got:?}, the rules {answer:?}"));
+        } else if !holds(&table, want.iter().flat_map(|p| p.cells.iter().copied())) {
+            self.differ(&format!("entries with {room} cells lent: the table differs"));
         }
     }
 
@@ -258,7 +281,7 @@ impl Check<'_> {
         self.shared.stage(OURS);
         let got = ours::class(file, &mut t);
         self.shared.stage(MODEL);
-        self.shared.counted(1, got.refusal);
+        self.shared.counted(2, got.refusal);
         let answer = ours::calls::ClassAnswer::of(want);
         if got != answer {
             self.differ(&format!("class with room {room:?}: ours {got:?}, the rules {answer:?}"));
@@ -340,7 +363,7 @@ impl Check<'_> {
         self.shared.stage(OURS);
         let got = ours::look(file, table, which, slot);
         self.shared.stage(MODEL);
-        self.shared.counted(2, got.0);
+        self.shared.counted(3, got.0);
         let wanted = match want {
             Ok(values) => (0, 0, values),
             Err(r) => (r.no, r.place, [0; 5]),
@@ -358,7 +381,7 @@ impl Check<'_> {
         self.shared.stage(OURS);
         let got = ours::dependants(file, table, slot, list.lend());
         self.shared.stage(MODEL);
-        self.shared.counted(3, got.refusal);
+        self.shared.counted(4, got.refusal);
         let (answer, found) = match &want {
             Ok(found) => ((0, 0, found.len() as u32), &found[..]),
             Err(r) => ((r.no, r.place, 0), &[][..]),
@@ -483,6 +506,16 @@ fn short(cells: &[u32]) -> String {
 
 fn holds<T: Copy + PartialEq + Default>(column: &ours::Column<T>, mut want: impl Iterator<Item = T>) -> bool {
     column.cells().iter().all(|&x| x == want.next().unwrap_or_default()) && want.next().is_none() && column.untouched_behind()
+}
+
+/// How many cells are lent: few, nearly enough, enough, any number.
+fn some_room(rng: &mut Rng, p: usize) -> usize {
+    match rng.below(4) {
+        0 => rng.below(4),
+        1 => p.saturating_sub(1 + rng.below(3)),
+        2 => p + rng.below(4),
+        _ => rng.below(p.min(200) + 1),
+    }
 }
 
 /// A handed table: as it should be, longer, shorter, or with one cell changed.

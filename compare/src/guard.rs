@@ -28,7 +28,7 @@ pub const OURS: u32 = 1;
 pub const MODEL: u32 = 2;
 pub const CRATE: u32 = 3;
 
-pub const CALLS: [&str; 4] = ["pool", "class", "lookups", "dependants"];
+pub const CALLS: [&str; 5] = ["pool", "entries", "class", "lookups", "dependants"];
 
 /// What the parent and the child both see.
 #[repr(C)]
@@ -45,7 +45,7 @@ pub struct Shared {
     pub slots: AtomicU64,
     pub crate_lookups: AtomicU64,
     /// By call and by refusal number (0: accepted).
-    pub refusals: [[AtomicU64; 20]; 4],
+    pub refusals: [[AtomicU64; 20]; 5],
     pub departures: [AtomicU64; 16],
 }
 

@@ -7,11 +7,18 @@ pub mod calls;
 
 use calls::*;
 
+/// Where the library's processor is not this one (compare/build says so), its calls are answered by a child.
+#[cfg(served)]
+#[path = "served.rs"]
+mod c;
+
+#[cfg(not(served))]
 #[allow(clippy::too_many_arguments)]
 mod c {
     use super::calls::*;
     extern "C" {
         pub fn luo_pool(file: *const u8, n: usize, table: *mut u8, m: usize) -> PoolAnswer;
+        pub fn luo_entries(file: *const u8, n: usize, table: *mut u32, m: usize) -> PoolAnswer;
         pub fn luo_literal(file: *const u8, n: usize, table: *const u8, m: usize, slot: u32) -> LiteralAnswer;
         pub fn luo_class_name(file: *const u8, n: usize, table: *const u8, m: usize, slot: u32) -> SlotAnswer;
         pub fn luo_module_name(file: *const u8, n: usize, table: *const u8, m: usize, slot: u32) -> SlotAnswer;
@@ -54,6 +61,10 @@ mod c {
 
 pub fn pool(file: &[u8], table: &mut [u8]) -> PoolAnswer {
     unsafe { c::luo_pool(file.as_ptr(), file.len(), table.as_mut_ptr(), table.len()) }
+}
+
+pub fn entries(file: &[u8], table: &mut [u32]) -> PoolAnswer {
+    unsafe { c::luo_entries(file.as_ptr(), file.len(), table.as_mut_ptr(), table.len()) }
 }
 
 /// A lookup: the refusal's number and place, and the answer's values in the order of the C interface.

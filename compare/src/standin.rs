@@ -42,6 +42,13 @@ pub unsafe extern "C" fn luo_pool(file: *const u8, n: usize, table: *mut u8, m: 
     PoolAnswer::of(&pool)
 }
 
+#[no_mangle]
+pub unsafe extern "C" fn luo_entries(file: *const u8, n: usize, table: *mut u32, m: usize) -> PoolAnswer {
+    let read = model::entries(bytes(file, n), Some(m), RULES);
+    fill(table, m, read.iter().flat_map(|p| p.cells.iter().copied()));
+    PoolAnswer::of(&read)
+}
+
 macro_rules! lookup {
     ($name:ident, $which:ident, $answer:ident { $($field:ident: $n:literal as $t:ty),* }) => {
         #[no_mangle]
