@@ -185,7 +185,8 @@ unfolding ascii scan pairs
 chain p [] h = linked-nil (not (eqb p 0x2F))
 chain p (b ∷ s) h =
     go (leb 0x01 b && leb b 0x7F) refl (λ l. chain b s l)
-    ∙ ap (λ (t : Bool). t && not (eqb (lastOf b s) 0x2F)) (ap (λ (t : Bool). t && linked (pairs b s)) (ap (λ (t : Bool). (t && (leb 0x01 b && leb b 0x7F)) && (not (eqb b 0x2E || (eqb b 0x3B || eqb b 0x5B)) && not (eqb b 0x2F && eqb p 0x2F))) (sym (lt-ltb p 128 h)) ∙ linked-one p b) ∙ sym (linked-join ((p, b) ∷ []) (pairs b s)))
+    ∙ ap (λ (t : Bool). t && not (eqb (lastOf b s) 0x2F))
+    (ap (λ (t : Bool). t && linked (pairs b s)) (ap (λ (t : Bool). (t && (leb 0x01 b && leb b 0x7F)) && (not (eqb b 0x2E || (eqb b 0x3B || eqb b 0x5B)) && not (eqb b 0x2F && eqb p 0x2F))) (sym (lt-ltb p 128 h)) ∙ linked-one p b) ∙ sym (linked-join ((p, b) ∷ []) (pairs b s)))
   where
     mix : (a f c k e : Bool) → a && c ≡ k && e → a && (f && c) ≡ (f && k) && e
     mix a true c k e h = h

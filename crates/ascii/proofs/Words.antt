@@ -155,7 +155,16 @@ every-eight name xs eight b =
     go : (t : Bool) → small xs ≡ t → (t && lacks (packed xs) 0) && cond name (unmarked8 (packed xs)) true ≡ (t && noneOf (0 ∷ []) xs) && cond name (noneOf marks xs) true
     go false e = refl
     go true e =
-        rw (lacks-none xs eight e 0 (omega arith), lacks-none xs eight e 0x2E (omega arith), lacks-none xs eight e 0x3B (omega arith), lacks-none xs eight e 0x5B (omega arith), lacks-none xs eight e 0x2F (omega arith), none-more 0x2E (0x3B ∷ 0x5B ∷ 0x2F ∷ []) xs, none-more 0x3B (0x5B ∷ 0x2F ∷ []) xs, none-more 0x5B (0x2F ∷ []) xs)
+        rw (
+          lacks-none xs eight e 0 (omega arith),
+          lacks-none xs eight e 0x2E (omega arith),
+          lacks-none xs eight e 0x3B (omega arith),
+          lacks-none xs eight e 0x5B (omega arith),
+          lacks-none xs eight e 0x2F (omega arith),
+          none-more 0x2E (0x3B ∷ 0x5B ∷ 0x2F ∷ []) xs,
+          none-more 0x3B (0x5B ∷ 0x2F ∷ []) xs,
+          none-more 0x5B (0x2F ∷ []) xs,
+        )
 
 -- ---- pairs: bytes beside those before them
 
@@ -258,4 +267,13 @@ linked-eight ps bs e8 f8 h k =
     go false x u y = refl
     go true x false y = refl
     go true x true y =
-        rw (lacks-none bs f8 y 0 (omega arith), lacks-none bs f8 y 0x2E (omega arith), lacks-none bs f8 y 0x3B (omega arith), lacks-none bs f8 y 0x5B (omega arith), none-more 0x2E (0x3B ∷ 0x5B ∷ []) bs, none-more 0x3B (0x5B ∷ []) bs, lacks-none (clash ps bs) (clash-length ps bs (e8 ∙ sym f8) ∙ f8) (clash-small ps bs x y) 0 (omega arith), clash-apart ps bs)
+        rw (
+          lacks-none bs f8 y 0 (omega arith),
+          lacks-none bs f8 y 0x2E (omega arith),
+          lacks-none bs f8 y 0x3B (omega arith),
+          lacks-none bs f8 y 0x5B (omega arith),
+          none-more 0x2E (0x3B ∷ 0x5B ∷ []) bs,
+          none-more 0x3B (0x5B ∷ []) bs,
+          lacks-none (clash ps bs) (clash-length ps bs (e8 ∙ sym f8) ∙ f8) (clash-small ps bs x y) 0 (omega arith),
+          clash-apart ps bs,
+        )

@@ -1,4 +1,4 @@
--- Plain ASCII, and how eight bytes at once are seen to be that. Assumes nothing.
+-- The code's own notion: plain ASCII, and how eight bytes at once are seen to be that. Assumes nothing.
 use Prim.Native.Nat.{ℕ, _+_, _*_}
 use mathlib.Core.List.{List, [], _∷_}
 use mathlib.Core.Bool.{Bool, true, cond, not, _&&_, _||_}

@@ -7,10 +7,10 @@ use Rattle.reads.specs.Answer.{Answer, accept, refuse}
 use Rattle.reads.specs.Bytes.{within, u2, u4, skipped}
 use Rattle.text.specs.Text.{same, bootstrapMethods, isBootstrapMethods, begins, formLength, covered, textForm, isText}
 use Rattle.pool.specs.Kinds.{has}
-use Rattle.slot.specs.Slots.{tagOf, field, bytesOf, ofKind, textAt}
+use Rattle.slot.specs.Slots.{tagOf, field, bytesOf, ofKind, textAt, utf8At}
 use Rattle.bootstrap.specs.Bootstrap.{isBootstrap, bodyU2, steps, bootstrapBody, ownRule}
 use Rattle.attributes.specs.declared.Attribute.{Attribute}
-use Rattle.attributes.specs.Attributes.{utf8At, attributeAt, ruled, recordAt}
+use Rattle.attributes.specs.Attributes.{attributeAt, ruled, recordAt}
 
 -- the number and the place of a refusal; the first byte and the length of an accepted body
 abbrev said : Answer Attribute → ℕ × ℕ

@@ -1,5 +1,3 @@
-pub mod Columns
 pub mod Frames
 pub mod Tiled
-pub mod Once
 mod Examples

@@ -1,13 +1,13 @@
 -- Attributes that were framed tile the file in order: every name is a Utf8 text of the pool, every body lies in the file. Assumes nothing.
-use mathlib.Core.Path.{_≡_, refl, ap, sym, subst, _∙_}
+use mathlib.Core.Path.{_≡_, refl, sym, subst}
 use mathlib.Core.Bool.{Bool, true}
 use mathlib.Core.List.{List, [], _∷_}
-use Prim.Native.Nat.{ℕ, zero, suc, _+_, _*_, _≤_, _<_}
+use Prim.Native.Nat.{ℕ, zero, suc, _+_, _*_, _≤_}
 use native.Mathlib.Omega.{arith}
 use lib.ListN.{length}
 use lib.Dec.{ltb, eqb}
 use borrow.Author.Tests.{ltb-true, eqb-true}
-use Rattle.reads.specs.Answer.{Answer, accept, fine}
+use Rattle.reads.specs.Answer.{accept, fine}
 use Rattle.reads.specs.Bytes.{u2, u4, skipped}
 use Rattle.reads.proofs.Answers.{same, first, held, required}
 use Rattle.reads.proofs.Leaves.{skipped-in}
@@ -15,10 +15,10 @@ use Rattle.text.specs.Text.{isText}
 use Rattle.pool.specs.Kinds as kind
 use Rattle.pool.specs.Pool.{Pool, slots}
 use Rattle.pool.proofs.Sets.{all-at}
-use Rattle.slot.specs.Slots.{tagOf, bytesOf, ofKind, textAt}
+use Rattle.slot.specs.Slots.{tagOf, bytesOf, ofKind, textAt, utf8At}
 use Rattle.attributes.specs.declared.Attribute.{Attribute}
-use Rattle.attributes.specs.Records.{Many, records}
-use Rattle.attributes.specs.Attributes.{utf8At, attributeAt, ruled, recordAt, bodyEnd, framed}
+use Rattle.reads.specs.Records.{Many, records}
+use Rattle.attributes.specs.Attributes.{attributeAt, ruled, recordAt, bodyEnd, framed}
 use Rattle.attributes.specs.Sound.{Named, Sound, Tiles}
 
 -- ---- one attribute
@@ -38,7 +38,7 @@ named-by p place m e =
       text = required (isText (bytesOf p m)) 9 place (b .1);
     }
 
-attribute-sound : (p : Pool) (at : ℕ) (a : Attribute) → accept a ≡ attributeAt p at → Sound p at a
+pub attribute-sound : (p : Pool) (at : ℕ) (a : Attribute) → accept a ≡ attributeAt p at → Sound p at a
 unfolding attributeAt
 attribute-sound p at a e =
     let m = first (u2 (p .file) at) _ a e in
@@ -61,27 +61,6 @@ record-sound own p room n at a e =
     subst (λ (x : Attribute). Sound p at x) (sym (same (v .1))) (attribute-sound p at (t .0) (t .1))
 
 -- ---- all
-
--- as many records as were asked for
-pub made : {R S : Type 0} (judge : ℕ → S → Answer R) (reach : R → S → S) (k n : ℕ) (s : S) (m : Many R S) → accept m ≡ records judge reach k n s → length (m .list) ≡ k
-unfolding records
-made judge reach zero n s m e = ap (λ (x : Many _ _). length (x .list)) (same e)
-made judge reach (suc k) n s m e =
-    let t = first (judge n s) _ m e in
-    let u = first (records judge reach k (n + 1) (reach (t .0) s)) _ m (t .2) in
-    ap (λ (x : Many _ _). length (x .list)) (same (u .2)) ∙ ap suc (made judge reach k (n + 1) (reach (t .0) s) (u .0) (u .1))
-
--- each has its room, where each that is judged good has
-pub roomy : {R S : Type 0} (judge : ℕ → S → Answer R) (reach : R → S → S) (room : ℕ) → ((n : ℕ) (s : S) (r : R) → accept r ≡ judge n s → n < room)
-    → (k n : ℕ) (s : S) (m : Many R S) → accept m ≡ records judge reach k n s → n ≤ room → n + k ≤ room
-unfolding records
-roomy judge reach room fits zero n s m e h = omega arith
-roomy judge reach room fits (suc k) n s m e h =
-    let t = first (judge n s) _ m e in
-    let u = first (records judge reach k (n + 1) (reach (t .0) s)) _ m (t .2) in
-    let f = fits n s (t .0) (t .1) in
-    let r = roomy judge reach room fits k (n + 1) (reach (t .0) s) (u .0) (u .1) (omega arith) in
-    omega arith
 
 module _ (own : Bool) (p : Pool) (room : ℕ) where
   pub tiled : (k n at : ℕ) (m : Many Attribute ℕ) → accept m ≡ framed own p room k n at → Tiles p at (m .list) (m .end)

@@ -1,22 +1,14 @@
 -- Attribute framing: name, length, body inside the file, and the body of the class's own BootstrapMethods. Document 01, "Members and lookups". Assumes nothing.
-use Prim.Native.Nat.{ℕ, _+_, min}
-use mathlib.Core.List.{List}
+use Prim.Native.Nat.{ℕ, _+_}
 use mathlib.Core.Bool.{Bool, cond}
-use lib.ListN.{length}
-use lib.Dec.{leb, ltb}
+use lib.Dec.{ltb}
 use Rattle.reads.specs.Answer.{Answer, Check, fine, accept, refuse, _>>=_, require}
 use Rattle.reads.specs.Bytes.{u2, u4, skipped}
-use Rattle.pool.specs.Pool.{Pool, slots}
-use Rattle.slot.specs.Slots.{inRange, textAt}
+use Rattle.pool.specs.Pool.{Pool}
+use Rattle.slot.specs.Slots.{utf8At}
 use Rattle.bootstrap.specs.Bootstrap.{ownRule}
-use Rattle.attributes.specs.Records.{Many, records}
+use Rattle.reads.specs.Records.{Many, records}
 use Rattle.attributes.specs.declared.Attribute.{Attribute}
-
--- the index m, which stands at byte `place`, is that of a Utf8 that is text
-unfoldable pub utf8At : Pool → ℕ → ℕ → Check
-utf8At p place m = do
-  _ ← inRange p place m
-  textAt p place m
 
 unfoldable pub attributeAt : Pool → ℕ → Answer Attribute
 attributeAt p at = do
@@ -45,13 +37,3 @@ bodyEnd a at = a .start + a .size
 -- k attributes from byte `at` on, which become records n, n + 1, ..: the class's own, or a member's
 abbrev pub framed : Bool → Pool → ℕ → ℕ → ℕ → ℕ → Answer (Many Attribute ℕ)
 framed own p room k n at = records (recordAt own p room) bodyEnd k n at
-
--- the same of a file that is not too long
-unfoldable pub attributes : Bool → Pool → ℕ → ℕ → ℕ → ℕ → Answer (Many Attribute ℕ)
-attributes own p room k n at = do
-  _ ← require (leb (length (p .file)) 16777216) 1 0
-  framed own p room k n at
-
--- the records that three columns have room for
-abbrev pub roomOf : List ℕ → List ℕ → List ℕ → ℕ
-roomOf a b c = min (min (length a) (length b)) (length c)

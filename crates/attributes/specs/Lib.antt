@@ -1,4 +1,3 @@
-pub mod Records
 pub mod Attributes
 pub mod Readings
 pub mod Sound

@@ -1,4 +1,4 @@
--- What attribute records that were framed say of the file. Document 01, "File and lent tables". Assumes nothing.
+-- A statement: what attribute records that were framed say of the file, as document 01 asks in "File and lent tables". Assumes nothing.
 use Prim.Native.Nat.{ℕ, _+_, _≤_, _<_}
 use mathlib.Core.Path.{_≡_}
 use mathlib.Core.List.{List, [], _∷_}

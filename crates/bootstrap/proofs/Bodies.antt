@@ -2,16 +2,14 @@
 use mathlib.Core.Path.{_≡_, ap, sym, _∙_}
 use Prim.Native.Nat.{ℕ, suc, _+_, _-_, _≤_, _<_}
 use native.Mathlib.Omega.{arith}
-use lib.Dec.{leb}
-use borrow.Author.Tests.{leb-true}
 use Rattle.reads.specs.Answer.{Answer, accept, refuse, _>>=_}
-use Rattle.reads.proofs.Answers.{held}
+use Rattle.reads.proofs.Leaves.{was-inside}
 use Rattle.pool.specs.Pool.{Pool}
 use Rattle.bootstrap.specs.Bootstrap.{bodyU2, steps}
 
 pub body-in : (p : Pool) (at end i v : ℕ) → accept v ≡ bodyU2 p at end i → i + 2 ≤ end
 unfolding bodyU2
-body-in p at end i v e = leb-true (i + 2) end (held (leb (i + 2) end) 18 at _ v e .0)
+body-in p at end i v e = was-inside _ end 18 at i 2 v e .0
 
 module _ (step : ℕ → Answer ℕ) (left i : ℕ) where
   go : 0 < left → steps step left i ≡ (step i >>= λ next. steps step (left - 1) next)

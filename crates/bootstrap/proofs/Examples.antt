@@ -52,7 +52,7 @@ abbrev pool : List ℕ → Pool
 pool cells = record { file = 0 ∷ 0 ∷ 1 ∷ 0 ∷ 2 ∷ 17 ∷ 0 ∷ 1 ∷ 18 ∷ 0 ∷ 0 ∷ 1 ∷ 0 ∷ 1 ∷ 65 ∷ 1 ∷ 0 ∷ 16 ∷ [] ++ bootstrapMethods; major = 55; cells = cells }
 
 abbrev indices : ℕ × List ℕ × List ℕ → ℕ × ℕ
-indices (n, names, starts) = said (bootstrapIndices (pool (take n (0 ∷ 15 ∷ 11 ∷ 5 ∷ 8 ∷ []))) names starts)
+indices (n, titles, starts) = said (bootstrapIndices (pool (take n (0 ∷ 15 ∷ 11 ∷ 5 ∷ 8 ∷ []))) titles starts)
 
 abbrev attributes : List ((ℕ × List ℕ × List ℕ) × ℕ × ℕ)
 attributes =

@@ -31,26 +31,26 @@ module _ (t : List ℕ) (left i : ℕ) where
   pub part-end : length t ≤ i → take left (drop i t) ≡ []
   part-end h = ap (λ (l : List ℕ). take left l) (drop-of-length-le t h) ∙ take-nil left
 
-module _ (p : Pool) (names bodies : List ℕ) (left i : ℕ) (f : Found) where
-  pub gather-go : 0 < left → i < length names → i < length bodies
-      → gathered p (take (left - 1) (drop (i + 1) names)) (take (left - 1) (drop (i + 1) bodies)) (joined p f (getD names i 0) (getD bodies i 0))
-      ≡ gathered p (take left (drop i names)) (take left (drop i bodies)) f
+module _ (p : Pool) (titles bodies : List ℕ) (left i : ℕ) (f : Found) where
+  pub gather-go : 0 < left → i < length titles → i < length bodies
+      → gathered p (take (left - 1) (drop (i + 1) titles)) (take (left - 1) (drop (i + 1) bodies)) (joined p f (getD titles i 0) (getD bodies i 0))
+      ≡ gathered p (take left (drop i titles)) (take left (drop i bodies)) f
   unfolding gathered
-  gather-go h k l = rw (part-more names left i h k, part-more bodies left i h l)
+  gather-go h k l = rw (part-more titles left i h k, part-more bodies left i h l)
 
-  pub no-name : length names ≤ i → f ≡ gathered p (take left (drop i names)) (take left (drop i bodies)) f
+  pub no-name : length titles ≤ i → f ≡ gathered p (take left (drop i titles)) (take left (drop i bodies)) f
   unfolding gathered
-  no-name h = rw (part-end names left i h)
+  no-name h = rw (part-end titles left i h)
 
-  pub no-body : length bodies ≤ i → f ≡ gathered p (take left (drop i names)) (take left (drop i bodies)) f
+  pub no-body : length bodies ≤ i → f ≡ gathered p (take left (drop i titles)) (take left (drop i bodies)) f
   unfolding gathered
-  no-body h = rw (part-end bodies left i h) (no-more (take left (drop i names)))
+  no-body h = rw (part-end bodies left i h) (no-more (take left (drop i titles)))
     where
       no-more : (l : List ℕ) → f ≡ gathered p l [] f
       no-more [] = refl
       no-more (x ∷ l) = refl
 
-  pub none-left : left ≡ 0 → f ≡ gathered p (take left (drop i names)) (take left (drop i bodies)) f
+  pub none-left : left ≡ 0 → f ≡ gathered p (take left (drop i titles)) (take left (drop i bodies)) f
   unfolding gathered
   none-left e = rw e
 
@@ -91,33 +91,33 @@ module _ (p : Pool) where
       at false true e = e
       at false false e = e
 
-  pub gathered-count : (names bodies : List ℕ) (f : Found) → gathered p names bodies f .count ≡ f .count + bootstraps p names bodies
+  pub gathered-count : (titles bodies : List ℕ) (f : Found) → gathered p titles bodies f .count ≡ f .count + bootstraps p titles bodies
   unfolding gathered bootstraps
   gathered-count [] bodies f = omega arith
-  gathered-count (m ∷ names) [] f = omega arith
-  gathered-count (m ∷ names) (b ∷ bodies) f = omega (arith, gathered-count names bodies (joined p f m b), joined-count f m b)
+  gathered-count (m ∷ titles) [] f = omega arith
+  gathered-count (m ∷ titles) (b ∷ bodies) f = omega (arith, gathered-count titles bodies (joined p f m b), joined-count f m b)
 
-  pub gathered-least : (i : ℕ) (names bodies : List ℕ) (f : Found) → ltb i (gathered p names bodies f .least) ≡ (ltb i (f .least) && belowEach p i names bodies)
+  pub gathered-least : (i : ℕ) (titles bodies : List ℕ) (f : Found) → ltb i (gathered p titles bodies f .least) ≡ (ltb i (f .least) && belowEach p i titles bodies)
   unfolding gathered belowEach
   gathered-least i [] bodies f = sym (and-true (ltb i (f .least)))
-  gathered-least i (m ∷ names) [] f = sym (and-true (ltb i (f .least)))
-  gathered-least i (m ∷ names) (b ∷ bodies) f =
-      gathered-least i names bodies (joined p f m b)
-      ∙ ap (λ (t : Bool). t && belowEach p i names bodies) (joined-least i f m b)
-      ∙ and-assoc (ltb i (f .least)) _ (belowEach p i names bodies)
+  gathered-least i (m ∷ titles) [] f = sym (and-true (ltb i (f .least)))
+  gathered-least i (m ∷ titles) (b ∷ bodies) f =
+      gathered-least i titles bodies (joined p f m b)
+      ∙ ap (λ (t : Bool). t && belowEach p i titles bodies) (joined-least i f m b)
+      ∙ and-assoc (ltb i (f .least)) _ (belowEach p i titles bodies)
 
 -- ---- each slot
 
-module _ (p : Pool) (small : Bytes (p .file)) (names bodies : List ℕ) where
-  judged-alike : (n : ℕ) → judged p (gathered p names bodies none) n ≡ bootstrapIndex p names bodies n
+module _ (p : Pool) (small : Bytes (p .file)) (titles bodies : List ℕ) where
+  judged-alike : (n : ℕ) → judged p (gathered p titles bodies none) n ≡ bootstrapIndex p titles bodies n
   unfolding judged bootstrapIndex field
   judged-alike n =
-      let c : gathered p names bodies none .count ≡ bootstraps p names bodies = omega (arith, gathered-count p names bodies none) in
-      let l : ltb (field p n 1) (gathered p names bodies none .least) ≡ belowEach p (field p n 1) names bodies =
-      gathered-least p (field p n 1) names bodies none ∙ ap (λ (t : Bool). t && belowEach p (field p n 1) names bodies) (lt-ltb (field p n 1) 65536 (pair-below (p .file) small (cell p n + 1))) in
+      let c : gathered p titles bodies none .count ≡ bootstraps p titles bodies = omega (arith, gathered-count p titles bodies none) in
+      let l : ltb (field p n 1) (gathered p titles bodies none .least) ≡ belowEach p (field p n 1) titles bodies =
+      gathered-least p (field p n 1) titles bodies none ∙ ap (λ (t : Bool). t && belowEach p (field p n 1) titles bodies) (lt-ltb (field p n 1) 65536 (pair-below (p .file) small (cell p n + 1))) in
       rw (c, l)
 
   -- all slots, from what was found
-  pub begin : (found : Found) (end : ℕ) → found ≡ gathered p names bodies none → end ≡ slots p → each (end - 0) 0 (judged p found) ≡ bootstrapIndices p names bodies
+  pub begin : (found : Found) (end : ℕ) → found ≡ gathered p titles bodies none → end ≡ slots p → each (end - 0) 0 (judged p found) ≡ bootstrapIndices p titles bodies
   unfolding bootstrapIndices
   begin found end e l = rw (sub-zero, e, l) (ap (each (slots p) 0) (λ i n. judged-alike n i))

@@ -13,10 +13,10 @@ use Rattle.slot.specs.Slots.{tagOf, field}
 use Rattle.bootstrap.specs.Indices.{bootstraps, belowEach, dynamic, bootstrapIndex, bootstrapIndices}
 
 -- its index is below the number of methods of each, and there is one
-pub named : (p : Pool) (names bodies : List ℕ) → fine ≡ bootstrapIndices p names bodies → (n : ℕ) → n < slots p → dynamic (tagOf p n) ≡ true
-    → (belowEach p (field p n 1) names bodies ≡ true) × (bootstraps p names bodies ≡ 1)
+pub named : (p : Pool) (titles bodies : List ℕ) → fine ≡ bootstrapIndices p titles bodies → (n : ℕ) → n < slots p → dynamic (tagOf p n) ≡ true
+    → (belowEach p (field p n 1) titles bodies ≡ true) × (bootstraps p titles bodies ≡ 1)
 unfolding bootstrapIndices bootstrapIndex
-named p names bodies e n h d =
-    let f : fine ≡ bootstrapIndex p names bodies n = each-at (slots p) 0 (bootstrapIndex p names bodies) e n (omega arith) (omega arith) in
-    let b = held (belowEach p (field p n 1) names bodies) 17 n _ tt (rw d at f) in
-    (b .0, eqb-true (bootstraps p names bodies) 1 (required (eqb (bootstraps p names bodies) 1) 16 n (b .1)))
+named p titles bodies e n h d =
+    let f : fine ≡ bootstrapIndex p titles bodies n = each-at (slots p) 0 (bootstrapIndex p titles bodies) e n (omega arith) (omega arith) in
+    let b = held (belowEach p (field p n 1) titles bodies) 17 n _ tt (rw d at f) in
+    (b .0, eqb-true (bootstraps p titles bodies) 1 (required (eqb (bootstraps p titles bodies) 1) 16 n (b .1)))

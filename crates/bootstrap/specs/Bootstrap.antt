@@ -2,9 +2,9 @@
 use Prim.Native.Nat.{ℕ, zero, suc, _+_}
 use mathlib.Core.List.{List, [], _∷_}
 use mathlib.Core.Bool.{Bool, cond}
-use lib.Dec.{leb, eqb}
+use lib.Dec.{eqb}
 use Rattle.reads.specs.Answer.{Answer, Check, fine, accept, refuse, _>>=_, require}
-use Rattle.reads.specs.Bytes.{num2}
+use Rattle.reads.specs.Bytes.{num2, inside}
 use Rattle.text.specs.Text.{isBootstrapMethods}
 use Rattle.pool.specs.Kinds as kind
 use Rattle.pool.specs.Pool.{Pool, slots}
@@ -25,7 +25,7 @@ loadable = kind.setOf (kind.Integer ∷ kind.Float ∷ kind.Long ∷ kind.Double
 
 unfoldable pub bodyU2 : Pool → ℕ → ℕ → ℕ → Answer ℕ
 bodyU2 p at end i = do
-  _ ← require (leb (i + 2) end) 18 at
+  _ ← inside end 18 at i 2
   accept (num2 (p .file) i)
 
 -- the index at byte i is that of an allowed kind: the byte after it
@@ -56,6 +56,10 @@ bootstrapBody p at start end = do
   next ← steps (methodAt p at end) n (start + 2)
   require (eqb next end) 18 at
 
--- an attribute of the class itself, whose first byte is `at`, its name in slot `name`, its body `size` bytes from byte `start` on
+-- an attribute of the class itself, whose first byte is `at`, its name in slot `name`, its body from byte `start` up to byte `end`
+abbrev pub ownBody : Pool → ℕ → ℕ → ℕ → ℕ → Check
+ownBody p at name start end = cond (isBootstrap p name) (bootstrapBody p at start end) fine
+
+-- the same, its body `size` bytes from byte `start` on
 unfoldable pub ownRule : Pool → ℕ → ℕ → ℕ → ℕ → Check
-ownRule p at name start size = cond (isBootstrap p name) (bootstrapBody p at start (start + size)) fine
+ownRule p at name start size = ownBody p at name start (start + size)

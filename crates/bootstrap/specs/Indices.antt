@@ -16,29 +16,29 @@ use Rattle.bootstrap.specs.declared.Found.{Found}
 -- how many of them are BootstrapMethods
 unfoldable pub bootstraps : Pool → List ℕ → List ℕ → ℕ
 bootstraps p [] bodies = 0
-bootstraps p (m ∷ names) [] = 0
-bootstraps p (m ∷ names) (b ∷ bodies) = cond (isBootstrap p m) 1 0 + bootstraps p names bodies
+bootstraps p (m ∷ titles) [] = 0
+bootstraps p (m ∷ titles) (b ∷ bodies) = cond (isBootstrap p m) 1 0 + bootstraps p titles bodies
 
 -- the index i is below the number of methods of each that is
 unfoldable pub belowEach : Pool → ℕ → List ℕ → List ℕ → Bool
 belowEach p i [] bodies = true
-belowEach p i (m ∷ names) [] = true
-belowEach p i (m ∷ names) (b ∷ bodies) = (not (isBootstrap p m) || ltb i (num2 (p .file) b)) && belowEach p i names bodies
+belowEach p i (m ∷ titles) [] = true
+belowEach p i (m ∷ titles) (b ∷ bodies) = (not (isBootstrap p m) || ltb i (num2 (p .file) b)) && belowEach p i titles bodies
 
 -- the tag of an entry that names a method of it
 unfoldable pub dynamic : ℕ → Bool
 dynamic t = eqb t kind.Dynamic || eqb t kind.InvokeDynamic
 
 unfoldable pub bootstrapIndex : Pool → List ℕ → List ℕ → ℕ → Check
-bootstrapIndex p names bodies n =
+bootstrapIndex p titles bodies n =
     cond (dynamic (tagOf p n))
     (do
-      _ ← require (belowEach p (field p n 1) names bodies) 17 n
-      require (eqb (bootstraps p names bodies) 1) 16 n)
+      _ ← require (belowEach p (field p n 1) titles bodies) 17 n
+      require (eqb (bootstraps p titles bodies) 1) 16 n)
     fine
 
 unfoldable pub bootstrapIndices : Pool → List ℕ → List ℕ → Check
-bootstrapIndices p names bodies = each (slots p) 0 (bootstrapIndex p names bodies)
+bootstrapIndices p titles bodies = each (slots p) 0 (bootstrapIndex p titles bodies)
 
 -- ---- the same in one pass over the attributes: how many there are, and the least number of methods of one, 65,536 where there is none
 
@@ -50,8 +50,8 @@ joined p f m b = cond (isBootstrap p m) (record { count = f .count + 1; least = 
 
 unfoldable pub gathered : Pool → List ℕ → List ℕ → Found → Found
 gathered p [] bodies f = f
-gathered p (m ∷ names) [] f = f
-gathered p (m ∷ names) (b ∷ bodies) f = gathered p names bodies (joined p f m b)
+gathered p (m ∷ titles) [] f = f
+gathered p (m ∷ titles) (b ∷ bodies) f = gathered p titles bodies (joined p f m b)
 
 unfoldable pub judged : Pool → Found → ℕ → Check
 judged p f n =

@@ -4,15 +4,12 @@ use reads::Next;
 use reads::Num2;
 use reads::Refusal;
 ghost use mathlib.Core.Path.{_≡_};
-ghost use Prim.Native.Nat.{_+_, _<_, min};
+ghost use Prim.Native.Nat.{_<_};
 ghost use lib.ListN.{take, drop};
 ghost use Rattle.reads.specs.Promise.{Is, reading2, readingCheck, readingNext};
 ghost use Rattle.pool.specs.Pool.{seen};
-ghost use Rattle.slot.specs.Slots.{inRange};
-ghost use Rattle.bootstrap.specs.Bootstrap.{isBootstrap, loadable, bodyU2, indexAt, steps, methodAt, bootstrapBody, ownRule};
+ghost use Rattle.bootstrap.specs.Bootstrap.{isBootstrap, loadable, bodyU2, indexAt, steps, methodAt, bootstrapBody, ownBody};
 ghost use Rattle.bootstrap.specs.Indices.{dynamic, bootstrapIndices, none, joined, gathered, judged};
-
-const METHOD_HANDLE: u32 = 0x8000;
 
 const LOADABLE: u32 = 0x181F8;
 
@@ -23,7 +20,7 @@ const INVOKE_DYNAMIC: u8 = 18;
 // What the class's own attributes say of BootstrapMethods: how many there are, and the least number of methods of one, 65,536 where there is none.
 struct Found {
     count: u32,
-    least: u32,
+    least: usize,
 }
 
 // Whether slot m holds the sixteen bytes of BootstrapMethods.
@@ -31,23 +28,6 @@ fn is_bootstrap(file: &[u8], major: u16, table: &[u32], slots: usize, m: usize) 
     ensures { λ r. ⌜ r ≡ isBootstrap (seen (now (file .entry)) major (now (table .entry)) slots) m ⌝ }
 {
     text::is_bootstrap_methods(slot::bytes_of(file, major, table, slots, m))
-}
-
-// That m is a slot.
-pub fn check_range(
-    file: &[u8],
-    major: u16,
-    table: &[u32],
-    slots: usize,
-    place: usize,
-    m: usize,
-) -> CheckAnswer
-    ensures { λ r. ⌜ Is readingCheck (inRange (seen (now (file .entry)) major (now (table .entry)) slots) place m) r ⌝ }
-{
-    if slot::slots_of(file, major, table, slots) <= m {
-        return CheckAnswer::Refused(Refusal { number: 7, place });
-    }
-    CheckAnswer::Fine
 }
 
 // The u2 at byte i of a body that ends before byte `end`; `at` is the attribute's first byte.
@@ -96,7 +76,7 @@ fn index_at(
         }
         Num2::Got(v) => v,
     };
-    match check_range(file, major, table, slots, i, m as usize) {
+    match slot::check_range(file, major, table, slots, i, m as usize) {
         CheckAnswer::Refused(r) => {
             return Next::Refused(r);
         }
@@ -149,7 +129,7 @@ fn method_at(
 ) -> Next
     ensures { λ r. ⌜ Is readingNext (methodAt (seen (now (file .entry)) major (now (table .entry)) slots) at end i) r ⌝ }
 {
-    let j = match index_at(METHOD_HANDLE, file, major, table, slots, at, end, i) {
+    let j = match index_at(pool::METHOD_HANDLE, file, major, table, slots, at, end, i) {
         Next::Refused(r) => {
             return Next::Refused(r);
         }
@@ -226,7 +206,7 @@ fn check_body(
     CheckAnswer::Fine
 }
 
-// An attribute of the class itself: its body is looked into where it is called BootstrapMethods.
+// An attribute of the class itself: its body, from byte `start` up to byte `end`, is looked into where it is called BootstrapMethods.
 pub fn check_own(
     file: &[u8],
     major: u16,
@@ -234,22 +214,15 @@ pub fn check_own(
     slots: usize,
     at: usize,
     name: u16,
-    start: u32,
-    size: u32,
+    start: usize,
+    end: usize,
 ) -> CheckAnswer
-    ensures { λ r. ⌜ Is readingCheck (ownRule (seen (now (file .entry)) major (now (table .entry)) slots) at name start size) r ⌝ }
+    ensures { λ r. ⌜ Is readingCheck (ownBody (seen (now (file .entry)) major (now (table .entry)) slots) at name start end) r ⌝ }
 {
     if is_bootstrap(file, major, table, slots, name as usize) {
-        let end = start as usize + size as usize;
-        return check_body(file, major, table, slots, at, start as usize, end);
+        return check_body(file, major, table, slots, at, start, end);
     }
     CheckAnswer::Fine
-}
-
-fn least(a: u32, b: u32) -> u32
-    ensures { λ r. ⌜ r ≡ min a b ⌝ }
-{
-    if a <= b { a } else { b }
 }
 
 // What was found so far, and one attribute more.
@@ -269,7 +242,7 @@ fn join(
         let n = reads::pair_at(file, body as usize);
         return Found {
             count: found.count + 1,
-            least: least(found.least, n as u32),
+            least: reads::least(found.least, n as usize),
         };
     }
     found
@@ -281,12 +254,12 @@ fn gather(
     major: u16,
     table: &[u32],
     slots: usize,
-    names: &[u16],
+    titles: &[u16],
     bodies: &[u32],
     first: usize,
     count: u16,
 ) -> Found
-    ensures { λ r. ⌜ r ≡ gathered (seen (now (file .entry)) major (now (table .entry)) slots) (take count (drop first (now (names .entry)))) (take count (drop first (now (bodies .entry)))) none ⌝ }
+    ensures { λ r. ⌜ r ≡ gathered (seen (now (file .entry)) major (now (table .entry)) slots) (take count (drop first (now (titles .entry)))) (take count (drop first (now (bodies .entry)))) none ⌝ }
 {
     let mut found = Found {
         count: 0,
@@ -295,13 +268,13 @@ fn gather(
     let mut i = first;
     let mut left = count;
     while 0 < left {
-        if names.len() <= i {
+        if titles.len() <= i {
             return found;
         }
         if bodies.len() <= i {
             return found;
         }
-        found = join(file, major, table, slots, found, names[i], bodies[i]);
+        found = join(file, major, table, slots, found, titles[i], bodies[i]);
         i += 1;
         left -= 1;
     }
@@ -327,7 +300,7 @@ fn check_index(
     ensures { λ r. ⌜ Is readingCheck (judged (seen (now (file .entry)) major (now (table .entry)) slots) found n) r ⌝ }
 {
     if is_dynamic(slot::tag_of(file, major, table, slots, n)) {
-        let i = slot::field_of(file, major, table, slots, n, 1) as u32;
+        let i = slot::field_of(file, major, table, slots, n, 1) as usize;
         if found.least <= i {
             return CheckAnswer::Refused(Refusal {
                 number: 17,
@@ -351,14 +324,14 @@ pub fn check_indices(
     major: u16,
     table: &[u32],
     slots: usize,
-    names: &[u16],
+    titles: &[u16],
     bodies: &[u32],
     first: usize,
     count: u16,
 ) -> CheckAnswer
-    ensures { λ r. ⌜ Is readingCheck (bootstrapIndices (seen (now (file .entry)) major (now (table .entry)) slots) (take count (drop first (now (names .entry)))) (take count (drop first (now (bodies .entry))))) r ⌝ }
+    ensures { λ r. ⌜ Is readingCheck (bootstrapIndices (seen (now (file .entry)) major (now (table .entry)) slots) (take count (drop first (now (titles .entry)))) (take count (drop first (now (bodies .entry))))) r ⌝ }
 {
-    let found = gather(file, major, table, slots, names, bodies, first, count);
+    let found = gather(file, major, table, slots, titles, bodies, first, count);
     let end = slot::slots_of(file, major, table, slots);
     let mut n = 0;
     while n < end {

@@ -89,7 +89,10 @@ module _ (f : Reader) (keeps : Keeps f) where
   -- one that gives a fixed answer: C and D
   pub fixed-answer : (x : Said) → ((s : List ℕ) → f s (literal-of (0 ∷ 10 ∷ []) 1) ≡ x) → ⊥
   unfolding text.same
-  fixed-answer x h = told answered (literal-is (accept (integer (negsuc 0)))) (literal-is (accept (integer (negsuc 2147483647)))) refl (sym (keeps file-C (literal-of (0 ∷ 10 ∷ []) 1) ∙ case-at 33) ∙ h file-C ∙ sym (h file-D) ∙ keeps file-D (literal-of (0 ∷ 10 ∷ []) 1) ∙ case-at 34)
+  fixed-answer x h =
+      let q = literal-of (0 ∷ 10 ∷ []) 1 in
+      let e = sym (keeps file-C q ∙ case-at 33) ∙ h file-C ∙ sym (h file-D) ∙ keeps file-D q ∙ case-at 34 in
+      told answered (literal-is (accept (integer (negsuc 0)))) (literal-is (accept (integer (negsuc 2147483647)))) refl e
 
   -- one that writes no cells: E
   pub writes-no-cells : ((s : List ℕ) (room : ℕ) → left (f s (read-with room)) ≡ replicate room 0) → ⊥

@@ -1,3 +1,4 @@
 pub mod Wrongs
 pub mod Cheats
 pub mod Modules
+pub mod Classes

@@ -1,4 +1,4 @@
--- Cases A to P of document 01, "Files to try": one table of them, and one statement that the definitions answer each so. Assumes nothing.
+-- Worked cases: A to P of document 01's "Files to try", one table of them, and one statement that the definitions answer each so. Assumes nothing.
 use Prim.Native.Nat.{ℕ}
 use mathlib.Core.Path.{_≡_, refl}
 use mathlib.Core.List.{List, [], _∷_}
@@ -16,7 +16,7 @@ use Rattle.slot.specs.Slots.{tagOf, field, bytesOf, ofKind, textAt, textOf, cla
 use Rattle.lookups.specs.declared.Member.{Member}
 use Rattle.lookups.specs.declared.Held.{Held}
 use Rattle.handed.specs.Handed.{agree, judged, handed, lookup, asked}
-use Rattle.literal.specs.Values.{Literal, integer, float, long, string, twos, single, twofold, numberAt}
+use Rattle.literal.specs.Values.{Literal, integer, long, string, twos, single, twofold, numberAt}
 use Rattle.values.specs.Lookups.{literalOf, literalAt, textAt as wordAt, bytesAt}
 use Rattle.reach.specs.Reach.{named, refersTo, anyOf, reaches, sieve, dependantsIn}
 use Rattle.dependants.specs.Dependants.{dependantsAt, dependants}
@@ -148,5 +148,17 @@ _&_ : {A B : Type 0} → A → B → A × B
 _&_ a b = (a, b)
 
 pub A-to-P : Shown cases
-unfolding oneOf noneOf before same begins formLength covered textForm isText unqualified onto split allOf binary follows walked whole isInit isClinit methodName escape moduleByte moduleForm moduleName stands classLength onMore baseLength typeLength depth fieldDescriptor arrayDescriptor returnDescriptor closing returned methodDescriptor returnsVoid takesNothing within u1 u2 u4 skipped padded each rowOf secondWidth wide entryAt slotAt entries allEntries headerOf readPool tagOf field bytesOf reference references has ofKind handled handle textAt textOf className classText typed member nameAndType obey checked pool agree judged handed lookup asked nameSlot memberOf memberAt handleAt twos single twofold numberAt literalOf literalAt wordAt bytesAt named refersTo anyOf reaches sieve dependantsIn dependantsAt
-A-to-P = refl & refl & refl & refl & refl & refl & refl & refl & refl & refl & refl & refl & refl & refl & refl & refl & refl & refl & refl & refl & refl & refl & refl & refl & refl & refl & refl & refl & refl & refl & refl & refl & refl & refl & refl & refl & refl & refl & refl & refl & refl & refl & refl & refl & refl & refl & refl & refl & refl & refl & refl & refl & refl & tt
+unfolding oneOf noneOf before same begins formLength covered textForm isText unqualified onto split allOf binary follows walked whole isInit isClinit
+    methodName escape moduleByte moduleForm moduleName stands classLength onMore baseLength typeLength depth fieldDescriptor arrayDescriptor
+    returnDescriptor closing returned methodDescriptor returnsVoid takesNothing within u1 u2 u4 skipped padded each rowOf secondWidth wide entryAt
+    slotAt entries allEntries headerOf readPool tagOf field bytesOf reference references has ofKind handled handle textAt textOf className classText
+    typed member nameAndType obey checked pool agree judged handed lookup asked nameSlot memberOf memberAt handleAt twos single twofold numberAt
+    literalOf literalAt wordAt bytesAt named refersTo anyOf reaches sieve dependantsIn dependantsAt
+A-to-P =
+    refl & refl & refl & refl & refl & refl & refl & refl & refl & refl
+    & refl & refl & refl & refl & refl & refl & refl & refl & refl & refl
+    & refl & refl & refl & refl & refl & refl & refl & refl & refl & refl
+    & refl & refl & refl & refl & refl & refl & refl & refl & refl & refl
+    & refl & refl & refl & refl & refl & refl & refl & refl & refl & refl
+    & refl & refl & refl
+    & tt

@@ -1,4 +1,4 @@
--- Module names by code points, as document 01 says them. Assumes nothing.
+-- A statement: module names by code points, as document 01 says them; held against those by bytes in proofs/Modules.antt. Assumes nothing.
 use Prim.Native.Nat.{ℕ, _+_, _-_, _*_}
 use mathlib.Core.List.{List, [], _∷_}
 use mathlib.Core.Bool.{Bool, true, cond, not, _&&_}

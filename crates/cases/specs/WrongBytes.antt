@@ -1,8 +1,8 @@
--- The same for tables of records, and for the calls on bytes and from C. Assumes nothing.
+-- Worked cases: an answer and two wrong ones for each call on tables of records, on bytes and from C. Assumes nothing.
 use Prim.Native.Nat.{ℕ, _*_, _/_}
 use mathlib.Core.List.{List, [], _∷_, _++_}
 use lib.ListN.{length, take, getD, replicate}
-use Rattle.reads.specs.Answer.{Answer, Check, fine, accept, refuse, mapped}
+use Rattle.reads.specs.Answer.{Answer, Check, accept, refuse, mapped}
 use Rattle.reads.specs.Tables.{after}
 use Rattle.pool.specs.Pool.{readPool}
 use Rattle.pool.specs.Readings.{headOf}
@@ -11,35 +11,33 @@ use Rattle.handed.specs.Handed.{handed, lookup}
 use Rattle.values.specs.Lookups.{literalAt, textAt, spanAt}
 use Rattle.lookups.specs.Lookups.{classAt, moduleAt, packageAt, methodTypeAt, namedAt, memberAt, handleAt, dynamicAt, invokeDynamicAt}
 use Rattle.dependants.specs.Dependants.{dependants}
-use Rattle.classfile.specs.Class.{classFile, roomsOf}
-use Rattle.classfile.specs.Readings.{classOf}
-use Rattle.members.specs.Lent.{Columns, zeros}
-use Rattle.tables.specs.Rest.{tabled as tabledIn}
-use Rattle.classfile.specs.declared.Class.{Class}
+use Rattle.class.specs.Columns.{Columns, zeros}
+use Rattle.class.specs.Readings.{classOf}
+use Rattle.class.specs.declared.Class.{Class}
 use Rattle.records.specs.Records.{Numbers, memberOf, membersFrom, none, Parts, attributeOf, attributesFrom, noAttribute}
 use Rattle.records.specs.declared.Member.{Member}
 use Rattle.records.specs.declared.Attribute.{Attribute}
 use Rattle.class_records.specs.ClassRecords.{classWith, recordsOf}
 use Rattle.cells.specs.Cells.{cellsIn, asBytes}
-use Rattle.afresh.specs.Afresh.{afresh, taken}
-use Rattle.replies.specs.declared.Reply.{Reply}
-use Rattle.replies.specs.declared.Question.the-variants.{Literal}
-use Rattle.replies.specs.Replies.{replyAt, onPool, literalNumbers}
-use Rattle.loader.specs.Numbers as c
-use Rattle.loader.specs.declared.LuoPoolAnswer.{LuoPoolAnswer}
-use Rattle.loader.specs.declared.LuoSlotAnswer.{LuoSlotAnswer}
-use Rattle.loader.specs.declared.LuoNamedAnswer.{LuoNamedAnswer}
-use Rattle.loader.specs.declared.LuoMemberAnswer.{LuoMemberAnswer}
-use Rattle.loader.specs.declared.LuoHandleAnswer.{LuoHandleAnswer}
-use Rattle.loader.specs.declared.LuoDynamicAnswer.{LuoDynamicAnswer}
-use Rattle.loader.specs.declared.LuoLiteralAnswer.{LuoLiteralAnswer}
-use Rattle.loader.specs.declared.LuoTextAnswer.{LuoTextAnswer}
-use Rattle.loader.specs.declared.LuoPartAnswer.{LuoPartAnswer}
-use Rattle.loader.specs.declared.LuoListAnswer.{LuoListAnswer}
-use Rattle.loader.specs.declared.LuoClassAnswer.{LuoClassAnswer}
+use Rattle.byte_tables.specs.Afresh.{afresh, taken}
+use Rattle.questions.specs.declared.Reply.{Reply}
+use Rattle.questions.specs.declared.Question.the-variants.{Literal}
+use Rattle.questions.specs.Replies.{replyAt, onPool, literalNumbers}
+use Rattle.numbers.specs.Numbers as c
+use Rattle.numbers.specs.declared.LuoPoolAnswer.{LuoPoolAnswer}
+use Rattle.numbers.specs.declared.LuoSlotAnswer.{LuoSlotAnswer}
+use Rattle.numbers.specs.declared.LuoNamedAnswer.{LuoNamedAnswer}
+use Rattle.numbers.specs.declared.LuoMemberAnswer.{LuoMemberAnswer}
+use Rattle.numbers.specs.declared.LuoHandleAnswer.{LuoHandleAnswer}
+use Rattle.numbers.specs.declared.LuoDynamicAnswer.{LuoDynamicAnswer}
+use Rattle.numbers.specs.declared.LuoLiteralAnswer.{LuoLiteralAnswer}
+use Rattle.numbers.specs.declared.LuoTextAnswer.{LuoTextAnswer}
+use Rattle.numbers.specs.declared.LuoPartAnswer.{LuoPartAnswer}
+use Rattle.numbers.specs.declared.LuoListAnswer.{LuoListAnswer}
+use Rattle.numbers.specs.declared.LuoClassAnswer.{LuoClassAnswer}
 use Rattle.cases.specs.Cases.{file-E, file-M, file-O, table-O}
-use Rattle.cases.specs.Wrongs.{Row, row, reading, texts, pools, asked-of-tables, num, nums, answer, check, file-C, file-F, file-Q, file-R, file-S, file-T, table-T}
-use Rattle.cases.specs.WrongClass.{classes, class-A as an-A, file-U, table-U, lent, field-f, cells}
+use Rattle.cases.specs.Wrongs.{Row, row, num, nums, answer, check, file-C, file-F, file-Q, file-R, file-S, file-T, table-T}
+use Rattle.cases.specs.WrongClass.{class-of as read-of, class-A as an-A, counts, no-cells, file-U, table-U, one-lent, field-f, cells}
 
 -- ---- what is asked
 
@@ -55,10 +53,10 @@ abbrev parts : Parts
 parts = record { titles = 1 ∷ 2 ∷ []; bodies = 3 ∷ 4 ∷ []; lengths = 5 ∷ 6 ∷ [] }
 
 -- a table of these cells as bytes
-abbrev b : List ℕ → List ℕ
+abbrev pub b : List ℕ → List ℕ
 b ns = asBytes (4 * length ns) ns
 
-abbrev table-E : List ℕ
+abbrev pub table-E : List ℕ
 table-E = 0 ∷ 10 ∷ 13 ∷ []
 
 -- ---- the numbers of an answer
@@ -79,7 +77,7 @@ records-of (m ∷ ms) = record-of m ++ records-of ms
 
 -- class A with a table of n member records
 abbrev with-records : ℕ → Answer Class × List Member
-with-records n = (mapped classOf (classWith file-U 5 1 lent n 0), after none recordsOf n (classWith file-U 5 1 lent n 0))
+with-records n = let x = classWith file-U 5 1 one-lent n 0 in (mapped classOf x, after none recordsOf n x)
 
 abbrev class-A-of : Answer Class
 class-A-of = accept (an-A 0x21)
@@ -88,45 +86,58 @@ abbrev field-record : Member
 field-record = record { flags = 8; name = 3; descriptor = 4; «first_attribute» = 0; attributes = 0 }
 
 abbrev classed-records : Answer Class × List Member → List ℕ
-classed-records o = answer (λ (c : Class). c .slots ∷ c .after .flags ∷ c .after .this ∷ c .after .lists .fields ∷ []) (o .0) ++ records-of (o .1)
+classed-records o = answer counts (o .0) ++ records-of (o .1)
 
-abbrev reply : Reply → List ℕ
+abbrev pub reply : Reply → List ℕ
 reply r = r .refusal ∷ r .place ∷ r .one ∷ r .two ∷ r .three ∷ r .four ∷ r .five ∷ r .bits ∷ r .start ∷ r .length ∷ []
 
-abbrev slot-of : LuoSlotAnswer → List ℕ
+abbrev pub slot-of : LuoSlotAnswer → List ℕ
 slot-of o = o .refusal ∷ o .place ∷ o .slot ∷ []
 
-abbrev slot-is : ℕ → ℕ → ℕ → LuoSlotAnswer
+abbrev pub slot-is : ℕ → ℕ → ℕ → LuoSlotAnswer
 slot-is nr place n = record { refusal = nr; place = place; slot = n }
 
-abbrev named-of : LuoNamedAnswer → List ℕ
+abbrev pub named-of : LuoNamedAnswer → List ℕ
 named-of o = o .refusal ∷ o .place ∷ o .name ∷ o .descriptor ∷ []
 
-abbrev member-of : LuoMemberAnswer → List ℕ
+abbrev pub named-is : ℕ → ℕ → ℕ → ℕ → LuoNamedAnswer
+named-is nr place name type = record { refusal = nr; place = place; name = name; descriptor = type }
+
+abbrev pub member-of : LuoMemberAnswer → List ℕ
 member-of o = o .refusal ∷ o .place ∷ o .tag ∷ o .«class_name» ∷ o .name ∷ o .descriptor ∷ []
 
-abbrev handle-of : LuoHandleAnswer → List ℕ
+abbrev pub handle-of : LuoHandleAnswer → List ℕ
 handle-of o = o .refusal ∷ o .place ∷ o .kind ∷ o .tag ∷ o .«class_name» ∷ o .name ∷ o .descriptor ∷ []
 
-abbrev dynamic-of : LuoDynamicAnswer → List ℕ
+-- of file O
+abbrev pub member-is : ℕ → ℕ → LuoMemberAnswer
+member-is tag class = record { refusal = 0; place = 0; tag = tag; «class_name» = class; name = 5; descriptor = 6 }
+
+abbrev pub handle-is : ℕ → ℕ → LuoHandleAnswer
+handle-is kind tag = record { refusal = 0; place = 0; kind = kind; tag = tag; «class_name» = 5; name = 5; descriptor = 6 }
+
+abbrev pub dynamic-of : LuoDynamicAnswer → List ℕ
 dynamic-of o = o .refusal ∷ o .place ∷ o .index ∷ o .name ∷ o .descriptor ∷ []
 
-abbrev dynamic-is : ℕ → ℕ → ℕ → LuoDynamicAnswer
+abbrev pub dynamic-is : ℕ → ℕ → ℕ → LuoDynamicAnswer
 dynamic-is index name type = record { refusal = 0; place = 0; index = index; name = name; descriptor = type }
 
-abbrev literal-of : LuoLiteralAnswer → List ℕ
+abbrev pub literal-of : LuoLiteralAnswer → List ℕ
 literal-of o = o .refusal ∷ o .place ∷ o .tag ∷ o .bits ∷ []
 
-abbrev text-of : LuoTextAnswer → List ℕ
+abbrev pub literal-is : ℕ → ℕ → LuoLiteralAnswer
+literal-is tag bits = record { refusal = 0; place = 0; tag = tag; bits = bits }
+
+abbrev pub text-of : LuoTextAnswer → List ℕ
 text-of o = o .refusal ∷ o .place ∷ o .text ∷ []
 
-abbrev part-of : LuoPartAnswer → List ℕ
+abbrev pub part-of : LuoPartAnswer → List ℕ
 part-of o = o .refusal ∷ o .place ∷ o .start ∷ o .length ∷ []
 
-abbrev pool-of : LuoPoolAnswer × List ℕ → List ℕ
+abbrev pub pool-of : LuoPoolAnswer × List ℕ → List ℕ
 pool-of o = o .0 .refusal ∷ o .0 .place ∷ o .0 .slots ∷ o .0 .minor ∷ o .0 .major ∷ [] ++ o .1
 
-abbrev list-of : LuoListAnswer × List ℕ → List ℕ
+abbrev pub list-of : LuoListAnswer × List ℕ → List ℕ
 list-of o = o .0 .refusal ∷ o .0 .place ∷ o .0 .count ∷ [] ++ o .1
 
 abbrev class-of : LuoClassAnswer × List ℕ × Columns → List ℕ
@@ -134,19 +145,29 @@ class-of o = o .0 .refusal ∷ o .0 .place ∷ o .0 .slots ∷ o .0 .flags ∷ o
 
 -- ---- what is answered
 
+-- file E against a table, read into three cells
+abbrev afresh-of : List ℕ → Check × List ℕ
+afresh-of table = (afresh file-E (cellsIn (b table)) 3, after 0 (λ w. w .pool .cells) 3 (taken file-E (cellsIn (b table)) 3))
+
 -- the dependants of slot 5 of file O into a list of that many bytes
 abbrev listed : ℕ → Answer ℕ × List ℕ
-listed len = (mapped length (dependants file-O (cellsIn (b table-O)) 5 (len / 4)), asBytes len (after 0 (λ xs. xs) (len / 4) (dependants file-O (cellsIn (b table-O)) 5 (len / 4))))
+listed len =
+    let x = dependants file-O (cellsIn (b table-O)) 5 (len / 4) in
+    (mapped length x, asBytes len (after 0 (λ xs. xs) (len / 4) x))
 
-abbrev no-pool : ℕ → ℕ → LuoPoolAnswer
+abbrev pub no-pool : ℕ → ℕ → LuoPoolAnswer
 no-pool nr place = record { refusal = nr; place = place; slots = 0; minor = 0; major = 0 }
 
-abbrev a-pool : ℕ → LuoPoolAnswer
+abbrev pub a-pool : ℕ → LuoPoolAnswer
 a-pool n = record { refusal = 0; place = 0; slots = n; minor = 0; major = 52 }
 
 -- class A, with these flags
 abbrev class-A : ℕ → LuoClassAnswer
 class-A flags = record { refusal = 0; place = 0; slots = 5; minor = 0; major = 52; flags = flags; «this_class» = 2; «super_class» = 0; interfaces = 0; fields = 1; methods = 0; «member_attributes» = 0; «class_attributes» = 0 }
+
+-- file U, as the call from C answers it
+abbrev c-class : LuoClassAnswer × List ℕ × Columns
+c-class = let o = read-of file-U in (c.classNumbers (o .0), o .1, o .3)
 
 abbrev pub on-bytes : List Row
 on-bytes =
@@ -162,7 +183,7 @@ on-bytes =
     ∷ row nums (replicate 3 0) (0 ∷ 0 ∷ 0 ∷ []) (0 ∷ 0 ∷ 1 ∷ []) []  -- clear_bytes
     ∷ row nums (asBytes 5 (take (5 / 4) (258 ∷ 7 ∷ []))) (0 ∷ 0 ∷ 1 ∷ 2 ∷ 0 ∷ []) (2 ∷ 1 ∷ 0 ∷ 0 ∷ 0 ∷ []) (0 ∷ 0 ∷ 1 ∷ 2 ∷ 7 ∷ [])  -- cells_out
     ∷ row nums (asBytes 4 (take (4 / 4) (258 ∷ []))) (0 ∷ 0 ∷ 1 ∷ 2 ∷ []) (1 ∷ 2 ∷ 0 ∷ 0 ∷ []) (0 ∷ 0 ∷ 0 ∷ 0 ∷ [])  -- list_out
-    ∷ row (λ (o : Check × List ℕ). check (o .0) ++ o .1) (afresh file-E (cellsIn (b (0 ∷ 10 ∷ 14 ∷ []))) 3, after 0 (λ w. w .pool .cells) 3 (taken file-E (cellsIn (b (0 ∷ 10 ∷ 14 ∷ []))) 3)) (refuse 12 2, 0 ∷ 0 ∷ 0 ∷ []) (refuse 12 2, table-E) (refuse 12 3, 0 ∷ 0 ∷ 0 ∷ [])  -- check_afresh
+    ∷ row (λ (o : Check × List ℕ). check (o .0) ++ o .1) (afresh-of (0 ∷ 10 ∷ 14 ∷ [])) (refuse 12 2, 0 ∷ 0 ∷ 0 ∷ []) (refuse 12 2, table-E) (refuse 12 3, 0 ∷ 0 ∷ 0 ∷ [])  -- check_afresh
     ∷ row reply (onPool (replyAt Literal 1) (handed file-C (cellsIn (b (0 ∷ 10 ∷ []))))) (literalNumbers 3 0xFFFFFFFF) (literalNumbers 4 0xFFFFFFFF) (literalNumbers 3 1)  -- ask
     ∷ row (λ (o : Answer ℕ × List ℕ). answer num (o .0) ++ o .1) (listed 20) (accept 4, asBytes 20 (1 ∷ 2 ∷ 3 ∷ 4 ∷ [])) (accept 0, asBytes 20 []) (accept 4, asBytes 20 (4 ∷ 3 ∷ 2 ∷ 1 ∷ []))  -- list_dependants
     ∷ []
@@ -175,18 +196,14 @@ from-c =
     ∷ row slot-of (c.slotNumbers (lookup file-Q (cellsIn (b (0 ∷ 10 ∷ 13 ∷ 17 ∷ 20 ∷ []))) (moduleAt 1))) (slot-is 0 0 2) (slot-is 0 0 1) (slot-is 8 1 0)  -- luo_module_name
     ∷ row slot-of (c.slotNumbers (lookup file-Q (cellsIn (b (0 ∷ 10 ∷ 13 ∷ 17 ∷ 20 ∷ []))) (packageAt 3))) (slot-is 0 0 4) (slot-is 0 0 3) (slot-is 8 3 0)  -- luo_package_name
     ∷ row slot-of (c.slotNumbers (lookup file-R (cellsIn (b table-E)) (methodTypeAt 1))) (slot-is 0 0 2) (slot-is 0 0 1) (slot-is 11 1 0)  -- luo_method_type
-    ∷ row named-of (c.namedNumbers (lookup file-S (cellsIn (b (0 ∷ 10 ∷ 15 ∷ 19 ∷ []))) (namedAt 1))) (record { refusal = 9; place = 1; name = 0; descriptor = 0 }) (record { refusal = 0; place = 0; name = 2; descriptor = 3 }) (record { refusal = 9; place = 1; name = 2; descriptor = 3 })  -- luo_name_and_type
-    ∷ row member-of (c.memberNumbers (lookup file-O (cellsIn (b table-O)) (memberAt 2))) (record { refusal = 0; place = 0; tag = 9; «class_name» = 5; name = 5; descriptor = 6 }) (record { refusal = 0; place = 0; tag = 10; «class_name» = 5; name = 5; descriptor = 6 }) (record { refusal = 0; place = 0; tag = 9; «class_name» = 3; name = 5; descriptor = 6 })  -- luo_member_reference
-    ∷ row handle-of (c.handleNumbers (lookup file-O (cellsIn (b table-O)) (handleAt 1))) (record { refusal = 0; place = 0; kind = 1; tag = 9; «class_name» = 5; name = 5; descriptor = 6 }) (record { refusal = 0; place = 0; kind = 9; tag = 1; «class_name» = 5; name = 5; descriptor = 6 }) (record { refusal = 8; place = 1; kind = 0; tag = 0; «class_name» = 0; name = 0; descriptor = 0 })  -- luo_method_handle
+    ∷ row named-of (c.namedNumbers (lookup file-S (cellsIn (b (0 ∷ 10 ∷ 15 ∷ 19 ∷ []))) (namedAt 1))) (named-is 9 1 0 0) (named-is 0 0 2 3) (named-is 9 1 2 3)  -- luo_name_and_type
+    ∷ row member-of (c.memberNumbers (lookup file-O (cellsIn (b table-O)) (memberAt 2))) (member-is 9 5) (member-is 10 5) (member-is 9 3)  -- luo_member_reference
+    ∷ row handle-of (c.handleNumbers (lookup file-O (cellsIn (b table-O)) (handleAt 1))) (handle-is 1 9) (handle-is 9 1) (record { refusal = 8; place = 1; kind = 0; tag = 0; «class_name» = 0; name = 0; descriptor = 0 })  -- luo_method_handle
     ∷ row dynamic-of (c.dynamicNumbers (lookup file-T (cellsIn (b table-T)) (dynamicAt 1))) (dynamic-is 7 3 4) (dynamic-is 2 3 4) (dynamic-is 7 4 3)  -- luo_dynamic
     ∷ row dynamic-of (c.dynamicNumbers (lookup file-T (cellsIn (b table-T)) (invokeDynamicAt 5))) (dynamic-is 9 3 7) (dynamic-is 7 3 4) (dynamic-is 9 3 4)  -- luo_invoke_dynamic
-    ∷ row literal-of (c.literalNumbers (lookup file-C (cellsIn (b (0 ∷ 10 ∷ []))) (literalAt 1))) (record { refusal = 0; place = 0; tag = 3; bits = 0xFFFFFFFF }) (record { refusal = 0; place = 0; tag = 3; bits = 1 }) (record { refusal = 0; place = 0; tag = 4; bits = 0xFFFFFFFF })  -- luo_literal
+    ∷ row literal-of (c.literalNumbers (lookup file-C (cellsIn (b (0 ∷ 10 ∷ []))) (literalAt 1))) (literal-is 3 0xFFFFFFFF) (literal-is 3 1) (literal-is 4 0xFFFFFFFF)  -- luo_literal
     ∷ row text-of (c.textNumbers (lookup file-M (cellsIn (b table-E)) (textAt 2))) (record { refusal = 0; place = 0; text = 0 }) (record { refusal = 0; place = 0; text = 1 }) (record { refusal = 9; place = 2; text = 0 })  -- luo_text
     ∷ row part-of (c.partNumbers (lookup file-E (cellsIn (b table-E)) (spanAt 2))) (record { refusal = 0; place = 0; start = 16; length = 1 }) (record { refusal = 0; place = 0; start = 14; length = 3 }) (record { refusal = 0; place = 0; start = 0; length = 0 })  -- luo_utf8_part
     ∷ row list-of (c.listNumbers (listed 15 .0), listed 15 .1) (record { refusal = 13; place = 4; count = 0 }, asBytes 15 []) (record { refusal = 13; place = 7; count = 0 }, asBytes 15 []) (record { refusal = 13; place = 4; count = 3 }, asBytes 15 (1 ∷ 2 ∷ 3 ∷ []))  -- luo_dependants
-    ∷ row class-of (c.classNumbers (mapped classOf (classFile file-U (roomsOf 5 1 lent))), after 0 (λ x. x .pool .pool .cells) 5 (classFile file-U (roomsOf 5 1 lent)), tabledIn lent (mapped (λ x. x .rest .listed .tables) (classFile file-U (roomsOf 5 1 lent)))) (class-A 0x21, table-U, field-f 8) (class-A 0x29, table-U, field-f 8) (c.noClass 18 47, 0 ∷ 0 ∷ 0 ∷ 0 ∷ 0 ∷ [], zeros lent)  -- luo_class
+    ∷ row class-of c-class (class-A 0x21, table-U, field-f 8) (class-A 0x29, table-U, field-f 8) (c.noClass 18 47, no-cells, zeros one-lent)  -- luo_class
     ∷ []
-
--- all of them
-abbrev pub wrongs : List Row
-wrongs = reading ++ texts ++ pools ++ asked-of-tables ++ classes ++ on-bytes ++ from-c

@@ -1,4 +1,4 @@
--- For the contract of each public call two answers that it rules out, a row each. Assumes nothing.
+-- Worked cases: for the contract of each public call an answer and two that it rules out, a row each. Assumes nothing.
 use Prim.Native.Nat.{ℕ, _+_, _*_}
 use mathlib.Core.Path.{_≡_}
 use mathlib.Core.List.{List, [], _∷_, _++_}
@@ -8,7 +8,7 @@ use lib.Ieee.{binary32, binary64, ofBits}
 use lib.ListN.{length, take, drop, replicate}
 use lib.Dec.{eqb}
 use Rattle.reads.specs.Answer.{Answer, Check, fine, accept, refuse, mapped, require}
-use Rattle.reads.specs.Bytes.{num1, num2, u1, u2, u4, u8, skipped}
+use Rattle.reads.specs.Bytes.{num1, num2, u1, u2, u4, skipped}
 use Rattle.reads.specs.Tables.{after}
 use Rattle.text.specs.Text.{same, run, before, textForm, isText, unqualified, nameMarks, walked, whole, binary, init, clinit, bootstrapMethods, isInit, isClinit, isBootstrapMethods, methodName, moduleForm, moduleName}
 use Rattle.descriptors.specs.Descriptors.{stands, fieldDescriptor, arrayDescriptor, methodDescriptor, returnsVoid, takesNothing}
@@ -141,7 +141,6 @@ reading =
     row (answer num) (u1 (7 ∷ []) 0) (accept 7) (accept 0) (refuse 2 0)  -- read_u1
     ∷ row (answer num) (u2 (1 ∷ 2 ∷ []) 0) (accept 258) (accept 513) (refuse 2 0)  -- read_u2
     ∷ row (answer num) (u4 (1 ∷ 2 ∷ 3 ∷ []) 0) (refuse 2 0) (refuse 2 3) (accept 66051)  -- read_u4
-    ∷ row (answer num) (u8 (0 ∷ 0 ∷ 0 ∷ 0 ∷ 0 ∷ 0 ∷ 0 ∷ 1 ∷ []) 0) (accept 1) (accept 4294967296) (refuse 2 0)  -- read_u8
     ∷ row (answer num) (skipped (7 ∷ []) 1 0) (accept 1) (refuse 2 1) (accept 0)  -- skip
     ∷ row num (num1 (5 ∷ []) 1) 0 5 1  -- byte_at
     ∷ row num (num2 (1 ∷ 2 ∷ []) 1) 512 258 2  -- pair_at

@@ -14,16 +14,6 @@ ghost use Rattle.slot.specs.Slots.{field};
 ghost use Rattle.slot.specs.Grammars.{good};
 ghost use Rattle.checks.specs.Checks.{reference, references, member, nameAndType, handled, handle, obey, checked, pool};
 
-const UTF8: u32 = 0x2;
-
-const CLASS: u32 = 0x80;
-
-const FIELD_REF: u32 = 0x200;
-
-const METHOD_REF: u32 = 0x400;
-
-const INTERFACE_METHOD_REF: u32 = 0x800;
-
 // The reference of slot n that stands k bytes after its tag byte, if k is not 0: that it is not n, then that it is a slot.
 fn check_reference(
     file: &[u8],
@@ -45,13 +35,7 @@ fn check_reference(
             place: n,
         });
     }
-    if slot::slots_of(file, major, table, slots) <= m {
-        return CheckAnswer::Refused(Refusal {
-            number: 7,
-            place: n,
-        });
-    }
-    CheckAnswer::Fine
+    slot::check_range(file, major, table, slots, n, m)
 }
 
 // Both references of slot n.
@@ -88,21 +72,21 @@ fn handled_by(major: u16, kind: u8) -> u32
     ensures { λ r. ⌜ r ≡ handled major kind ⌝ }
 {
     if kind <= 4 {
-        return FIELD_REF;
+        return pool::FIELD_REF;
     }
     if kind == 9 {
-        return INTERFACE_METHOD_REF;
+        return pool::INTERFACE_METHOD_REF;
     }
     if major < 52 {
-        return METHOD_REF;
+        return pool::METHOD_REF;
     }
     if kind == 6 {
-        return METHOD_REF + INTERFACE_METHOD_REF;
+        return pool::METHOD_REF + pool::INTERFACE_METHOD_REF;
     }
     if kind == 7 {
-        return METHOD_REF + INTERFACE_METHOD_REF;
+        return pool::METHOD_REF + pool::INTERFACE_METHOD_REF;
     }
-    METHOD_REF
+    pool::METHOD_REF
 }
 
 // The rule of a MethodHandle.
@@ -129,7 +113,7 @@ fn check_member(
     requires { ⌜ (a ≡ field (seen (now file) major (now table) slots) n 1) × (b ≡ field (seen (now file) major (now table) slots) n 3) ⌝ }
     ensures { λ r. ⌜ Is readingCheck (member (good grammar) (seen (now (file .entry)) major (now (table .entry)) slots) n) r ⌝ }
 {
-    match slot::check_kind(file, major, table, slots, n, CLASS, a) {
+    match slot::check_kind(file, major, table, slots, n, pool::CLASS, a) {
         CheckAnswer::Refused(r) => {
             return CheckAnswer::Refused(r);
         }
@@ -157,7 +141,7 @@ fn check_name_and_type(
         }
         CheckAnswer::Fine => {}
     }
-    slot::check_kind(file, major, table, slots, n, UTF8, b)
+    slot::check_kind(file, major, table, slots, n, pool::UTF8, b)
 }
 
 // The rule of slot n, by its tag; Zero, Unused, Utf8 and numbers have none.
@@ -173,7 +157,7 @@ fn check_entry(file: &[u8], major: u16, table: &[u32], slots: usize, n: usize) -
     let method = Grammar::MethodDescriptor;
     match tag {
         7 => slot::check_class_name(file, major, table, slots, n, a),
-        8 => slot::check_kind(file, major, table, slots, n, UTF8, a),
+        8 => slot::check_kind(file, major, table, slots, n, pool::UTF8, a),
         9 => check_member(Grammar::FieldDescriptor, file, major, table, slots, n, a, b),
         10 => check_member(method, file, major, table, slots, n, a, b),
         11 => check_member(method, file, major, table, slots, n, a, b),

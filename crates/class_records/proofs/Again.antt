@@ -1,9 +1,9 @@
 -- A `&κ mut [T]` that is lent for a lifetime κ′ of a call, again as `&mut` or as `&`, and comes back. It says nothing of the crate.
 --     Kept             what the holder keeps meanwhile: its own borrow at κ, open, with both halves of its ghost variable
---     lends-again      own (the `&κ mut [T]` x) ∗ [κ]_q  ⊢ ⇛ ∃ δ. own (the `&κ′ mut [T]` x, by the name δ) ∗ LentAgain δ
---     comes-back       given `Room` and that zs is as long as x's list:  [†κ′] ∗ LentAgain δ ∗ finally δ zs  ⊢ ⇛ (own (the `&κ mut [T]` x at zs) ∗ [κ]_q)
---     lends-shared     own (the `&κ mut [T]` x) ∗ [κ]_q  ⊢ ⇛ ∃ δ. own (the `&κ′ [T]` x, by the name δ) ∗ LentShared
---     shared-back      given `Room`:  [†κ′] ∗ LentShared  ⊢ ⇛ (own (the `&κ mut [T]` x) ∗ [κ]_q)
+--     lends-again      mine ∗ token  ⊢ ⇛ ∃ δ. own (the `&κ′ mut [T]`, by the name δ) ∗ LentAgain δ
+--     comes-back       given `Room` and that zs is as long as the list was:  [†κ′] ∗ LentAgain δ ∗ finally δ zs  ⊢ ⇛ (mine at zs ∗ token)
+--     lends-shared     mine at zs ∗ token  ⊢ ⇛ ∃ δ. own (the `&κ′ [T]` at zs, by the name δ) ∗ LentShared at zs
+--     shared-back      given the same of zs:  [†κ′] ∗ LentShared at zs  ⊢ ⇛ (mine at zs ∗ token)
 -- Assumes `Given`.
 use mathlib.Core.Path.{_≡_, refl, sym, ap, subst}
 use Prim.Native.Nat.{ℕ}
@@ -29,62 +29,109 @@ use denote.Slice.{sliceVal, MutSlice, ShrSlice, heres, Room, finally, at-slice, 
 use denote.Lend.{Held, lends-slice, slice-back, lends-shr-slice}
 use denote.Index.{row, whole-out, whole-in, opens-slice, closes-slice}
 
--- a reference at another list, and by another name
-abbrev pub ending : {X : Type 0} → RefT (List X) → List X → RefT (List X)
-ending x ys = record { ptr = x .ptr; name = x .name; now = ys }
+-- a pair, for what is nested deeply
+infixr 5 _▸_
+abbrev pub _▸_ {α β} : {X : Type α} {Y : Type β} → X → Y → X × Y
+x ▸ y = (x, y)
 
-abbrev pub by-name : {X : Type 0} → RefT (List X) → GName → RefT (List X)
-by-name x δ = record { ptr = x .ptr; name = δ; now = x .now }
+-- a slice that is a parameter: what its cells are, its lifetime's name, that lifetime, the share of its token, and the reference
+pub record Param : Type 2 where
+  pub holds : RattleType
+  pub ℓ : Lifetime
+  pub κ : Lft
+  pub q : Share
+  pub ref : RefT (List (holds .Denot))
 
--- its one machine value
-abbrev pub val : {X : Type 0} → RefT (List X) → Val
-val x = sliceVal (x .ptr) (length (x .now))
+module _ (c : Param) where
+  -- the list at entry
+  abbrev pub first : List (c .holds .Denot)
+  first = c .ref .now
 
--- which is the same at a list as long
-pub again : {X : Type 0} (x : RefT (List X)) (ys : List X) → length ys ≡ length (x .now) → _≡_ {A = List Val} (val x ∷ []) (val (ending x ys) ∷ [])
-again x ys e = ap (λ (m : ℕ). sliceVal (x .ptr) m ∷ []) (sym e)
+  -- its one machine value
+  abbrev pub val : Val
+  val = sliceVal (c .ref .ptr) (length first)
 
-module _ (R : RattleType) (κ κ′ : Lft) (q : Share) (x : RefT (List (R .Denot))) where
-  abbrev Kept : Fml
-  Kept = fsep (fobor κ q (Held R (length (x .now)) (x .ptr .0) (x .ptr .1) (x .name))) (fsep (fobs (x .name) (codedHoleys R .code (heres R (x .now)))) (fauth (x .name) (codedHoleys R .code (heres R (x .now)))))
+  abbrev pub token : Fml
+  token = flft (c .κ) (c .q)
 
-  abbrev pub LentAgain : GName → Fml
-  LentAgain δ = fsep (flent κ′ (Held R (length (x .now)) (x .ptr .0) (x .ptr .1) δ)) Kept
+  -- at a list, and by another name
+  abbrev pub at : List (c .holds .Denot) → RefT (List (c .holds .Denot))
+  at zs = record { ptr = c .ref .ptr; name = c .ref .name; now = zs }
 
-  abbrev pub LentShared : Fml
-  LentShared = fsep (flent κ′ (arr-parts (shares R) (length (x .now)) .part fullShare (x .now) (x .ptr .0) (x .ptr .1))) Kept
+  abbrev pub by-name : List (c .holds .Denot) → GName → RefT (List (c .holds .Denot))
+  by-name zs δ = record { ptr = c .ref .ptr; name = δ; now = zs }
 
-  module _ {M : Type 1} (𝓤 : URA M) (H : Heap 𝓤) (A : Atoms 𝓤) (W : Given 𝓤 H A) (ℓ ℓ′ : Lifetime) where
-    pub lends-again : ent 𝓤 (sep 𝓤 (sem 𝓤 H A (MutSlice ℓ κ R .own x (val x ∷ []))) (A .lft κ q))
-        (H .⇛ (ex 𝓤 (λ (δ : GName). sep 𝓤 (sem 𝓤 H A (MutSlice ℓ′ κ′ R .own (by-name x δ) (val x ∷ []))) (sem 𝓤 H A (LentAgain δ)))))
-    lends-again =
-        qed W (‵ (MutSlice ℓ κ R .own x (val x ∷ [])) ∷ ‵ (flft κ q) ∷ []) ∵ updating ! $ fsplit ! $ pureL ! (at-slice R x (val x ∷ [])) (λ p. fsplit ! $ opens-slice ! tt R (x .now) (x .ptr .0) (x .ptr .1) $
-        use1 W (‵ (cells (mem R) (x .now) (x .ptr .0) (x .ptr .1))) (whole-in 𝓤 H A W R (x .now) (x .ptr .0) (x .ptr .1)) $
-        use1 W (later (some (λ (δ : GName). ‵ (MutSlice ℓ′ κ′ R .own (by-name x δ) (val x ∷ [])) ⊛ ‵ (flent κ′ (Held R (length (x .now)) (x .ptr .0) (x .ptr .1) δ))))) (lends-slice 𝓤 H A W R ℓ′ κ′ (x .now) (x .ptr .0) (x .ptr .1) (p .1)) $ await ! tt $ pick ! (λ δ. split ! $
-        -- [the new slice; the lender's part at κ′; the open borrow at κ; obs; auth]
-        at-once ! $ show ! (λ (δ′ : GName). sep 𝓤 (sem 𝓤 H A (MutSlice ℓ′ κ′ R .own (by-name x δ′) (val x ∷ []))) (sem 𝓤 H A (LentAgain δ′))) δ $ frame ! $
-        move ! (2 ∷ 3 ∷ []) $ fjoin ! $ move ! (2 ∷ 0 ∷ []) $ fjoin ! $ move ! (1 ∷ 0 ∷ []) $ fjoin ! $ done !))
+  -- the `&κ mut [T]`, at a list
+  abbrev pub mine : List (c .holds .Denot) → Fml
+  mine zs = MutSlice (c .ℓ) (c .κ) (c .holds) .own (at zs) (val ∷ [])
 
-    pub comes-back : (δ : GName) (zs : List (R .Denot)) → Room R (length (x .now)) → length zs ≡ length (x .now)
-        → ent 𝓤 (sep 𝓤 (A .dead κ′) (sep 𝓤 (sem 𝓤 H A (LentAgain δ)) (sem 𝓤 H A (finally R δ zs)))) (H .⇛ (sep 𝓤 (sem 𝓤 H A (MutSlice ℓ κ R .own (ending x zs) (val x ∷ []))) (A .lft κ q)))
-    comes-back δ zs room e =
-        qed W (‵ (fdead κ′) ∷ ‵ (LentAgain δ) ∷ ‵ (finally R δ zs) ∷ []) ∵ updating ! $ move ! (1 ∷ []) $ fsplit ! $ move ! (2 ∷ 0 ∷ 3 ∷ []) $
-        use3 W (later (‵ (Arr (mem R) (length (x .now)) .lies zs (x .ptr .0) (x .ptr .1)))) (slice-back 𝓤 H A W R κ′ δ zs (length (x .now)) (x .ptr .0) (x .ptr .1)) $ await ! tt $ fsplit ! $ drop ! $ use1 W (‵ (row R fullShare zs (x .ptr .0) (x .ptr .1))) (whole-out 𝓤 H A W R zs (x .ptr .0) (x .ptr .1)) $
-        move ! (1 ∷ []) $ fsplit ! $ move ! (1 ∷ []) $ fsplit ! $ move ! (3 ∷ 2 ∷ 0 ∷ 1 ∷ []) $ closes-slice ! tt R (x .now) zs e (x .ptr .0) (x .ptr .1) $ at-once ! $
-        fjoin ! $ pureI ! (at-slice R (ending x zs) (val x ∷ [])) (tt, (tt, tt)) (ap (λ (m : ℕ). sliceVal (x .ptr) m ∷ []) (sym e), subst (Room R) (sym e) room) $ fjoin ! $ done !
+  -- the `&κ [T]`, where the parameter is one
+  abbrev pub given-shared : Fml
+  given-shared = ShrSlice (c .ℓ) (c .κ) (c .holds) .own (c .ref) (val ∷ [])
 
-    pub lends-shared : (vs : List Val) → ent 𝓤 (sep 𝓤 (sem 𝓤 H A (MutSlice ℓ κ R .own x vs)) (A .lft κ q))
-        (H .⇛ (ex 𝓤 (λ (δ : GName). sep 𝓤 (sem 𝓤 H A (ShrSlice ℓ′ κ′ R .own (by-name x δ) vs)) (sem 𝓤 H A LentShared))))
-    lends-shared vs =
-        qed W (‵ (MutSlice ℓ κ R .own x vs) ∷ ‵ (flft κ q) ∷ []) ∵ updating ! $ fsplit ! $ pureL ! (at-slice R x vs) (λ p. fsplit ! $ opens-slice ! tt R (x .now) (x .ptr .0) (x .ptr .1) $
-        feqI ! ℕ (length (x .now)) (length (x .now)) refl $ fjoin ! $
-        use1 W (later (some (λ (δ : GName). ‵ (ShrSlice ℓ′ κ′ R .own (by-name x δ) (val x ∷ [])) ⊛ ‵ (flent κ′ (arr-parts (shares R) (length (x .now)) .part fullShare (x .now) (x .ptr .0) (x .ptr .1)))))) (lends-shr-slice 𝓤 H A W R ℓ′ κ′ fullShare (x .now) (x .ptr .0) (x .ptr .1) (p .1)) $ await ! tt $ pick ! (λ δ. split ! $
-        rewrite ! 0 (λ (us : List Val). ‵ (ShrSlice ℓ′ κ′ R .own (by-name x δ) us)) (sym (p .0)) refl $
-        at-once ! $ show ! (λ (δ′ : GName). sep 𝓤 (sem 𝓤 H A (ShrSlice ℓ′ κ′ R .own (by-name x δ′) vs)) (sem 𝓤 H A LentShared)) δ $ frame ! $
-        move ! (2 ∷ 3 ∷ []) $ fjoin ! $ move ! (2 ∷ 0 ∷ []) $ fjoin ! $ move ! (1 ∷ 0 ∷ []) $ fjoin ! $ done !))
+  -- what is had of one that was passed on for good
+  abbrev pub last : List (c .holds .Denot) → Fml
+  last zs = finally (c .holds) (c .ref .name) zs
 
-    pub shared-back : (vs : List Val) → vs ≡ val x ∷ [] → Room R (length (x .now)) → ent 𝓤 (sep 𝓤 (A .dead κ′) (sem 𝓤 H A LentShared)) (H .⇛ (sep 𝓤 (sem 𝓤 H A (MutSlice ℓ κ R .own x vs)) (A .lft κ q)))
-    shared-back vs e room =
-        qed W (‵ (fdead κ′) ∷ ‵ LentShared ∷ []) ∵ updating ! $ move ! (1 ∷ []) $ fsplit ! $ move ! (2 ∷ 0 ∷ []) $ lent-back ! tt $ fsplit ! $ drop ! $
-        move ! (1 ∷ []) $ fsplit ! $ move ! (1 ∷ []) $ fsplit ! $ move ! (3 ∷ 2 ∷ 0 ∷ 1 ∷ []) $ closes-slice ! tt R (x .now) (x .now) refl (x .ptr .0) (x .ptr .1) $ at-once ! $
-        fjoin ! $ pureI ! (at-slice R x vs) (tt, (tt, tt)) (e, room) $ fjoin ! $ done !
+  module _ (ℓ′ : Lifetime) (κ′ : Lft) where
+    abbrev R : RattleType
+    R = c .holds
+
+    abbrev n : ℕ
+    n = length first
+
+    abbrev a : ℕ
+    a = c .ref .ptr .0
+
+    abbrev o : ℕ
+    o = c .ref .ptr .1
+
+    -- the borrow of the call
+    abbrev pub again : GName → Fml
+    again δ = MutSlice ℓ′ κ′ R .own (by-name first δ) (val ∷ [])
+
+    abbrev pub shared : List (R .Denot) → GName → Fml
+    shared zs δ = ShrSlice ℓ′ κ′ R .own (by-name zs δ) (val ∷ [])
+
+    abbrev Kept : List (R .Denot) → Fml
+    Kept zs = fsep (fobor (c .κ) (c .q) (Held R (length zs) a o (c .ref .name))) (fsep (fobs (c .ref .name) (codedHoleys R .code (heres R zs))) (fauth (c .ref .name) (codedHoleys R .code (heres R zs))))
+
+    abbrev pub LentAgain : GName → Fml
+    LentAgain δ = fsep (flent κ′ (Held R n a o δ)) (Kept first)
+
+    abbrev pub LentShared : List (R .Denot) → Fml
+    LentShared zs = fsep (flent κ′ (arr-parts (shares R) (length zs) .part fullShare zs a o)) (Kept zs)
+
+    module _ {M : Type 1} (𝓤 : URA M) (H : Heap 𝓤) (A : Atoms 𝓤) (W : Given 𝓤 H A) where
+      pub lends-again : ent 𝓤 (sep 𝓤 (sem 𝓤 H A (mine first)) (A .lft (c .κ) (c .q))) (H .⇛ (ex 𝓤 (λ (δ : GName). sep 𝓤 (sem 𝓤 H A (again δ)) (sem 𝓤 H A (LentAgain δ)))))
+      lends-again =
+          qed W (‵ (mine first) ∷ ‵ token ∷ []) ∵ updating ! $ fsplit ! $ pureL ! (at-slice R (at first) (val ∷ [])) (λ p. fsplit ! $ opens-slice ! tt R first a o $
+          use1 W (‵ (cells (mem R) first a o)) (whole-in 𝓤 H A W R first a o) $
+          use1 W (later (some (λ (δ : GName). ‵ (again δ) ⊛ ‵ (flent κ′ (Held R n a o δ))))) (lends-slice 𝓤 H A W R ℓ′ κ′ first a o (p .1)) $ await ! tt $ pick ! (λ δ. split ! $
+          -- [the new slice; the lender's part at κ′; the open borrow at κ; obs; auth]
+          at-once ! $ show ! (λ (δ′ : GName). sep 𝓤 (sem 𝓤 H A (again δ′)) (sem 𝓤 H A (LentAgain δ′))) δ $ frame ! $
+          move ! (2 ∷ 3 ∷ []) $ fjoin ! $ move ! (2 ∷ 0 ∷ []) $ fjoin ! $ move ! (1 ∷ 0 ∷ []) $ fjoin ! $ done !))
+
+      pub comes-back : (δ : GName) (zs : List (R .Denot)) → Room R n → length zs ≡ n
+          → ent 𝓤 (sep 𝓤 (A .dead κ′) (sep 𝓤 (sem 𝓤 H A (LentAgain δ)) (sem 𝓤 H A (finally R δ zs)))) (H .⇛ (sep 𝓤 (sem 𝓤 H A (mine zs)) (A .lft (c .κ) (c .q))))
+      comes-back δ zs room e =
+          qed W (‵ (fdead κ′) ∷ ‵ (LentAgain δ) ∷ ‵ (finally R δ zs) ∷ []) ∵ updating ! $ move ! (1 ∷ []) $ fsplit ! $ move ! (2 ∷ 0 ∷ 3 ∷ []) $
+          use3 W (later (‵ (Arr (mem R) n .lies zs a o))) (slice-back 𝓤 H A W R κ′ δ zs n a o) $ await ! tt $ fsplit ! $ drop ! $ use1 W (‵ (row R fullShare zs a o)) (whole-out 𝓤 H A W R zs a o) $
+          move ! (1 ∷ []) $ fsplit ! $ move ! (1 ∷ []) $ fsplit ! $ move ! (3 ∷ 2 ∷ 0 ∷ 1 ∷ []) $ closes-slice ! tt R first zs e a o $ at-once ! $
+          fjoin ! $ pureI ! (at-slice R (at zs) (val ∷ [])) (tt, (tt, tt)) (ap (λ (m : ℕ). sliceVal (c .ref .ptr) m ∷ []) (sym e), subst (Room R) (sym e) room) $ fjoin ! $ done !
+
+      pub lends-shared : (zs : List (R .Denot)) → ent 𝓤 (sep 𝓤 (sem 𝓤 H A (mine zs)) (A .lft (c .κ) (c .q))) (H .⇛ (ex 𝓤 (λ (δ : GName). sep 𝓤 (sem 𝓤 H A (shared zs δ)) (sem 𝓤 H A (LentShared zs)))))
+      lends-shared zs =
+          qed W (‵ (mine zs) ∷ ‵ token ∷ []) ∵ updating ! $ fsplit ! $ pureL ! (at-slice R (at zs) (val ∷ [])) (λ p. fsplit ! $ opens-slice ! tt R zs a o $
+          feqI ! ℕ (length zs) (length zs) refl $ fjoin ! $
+          use1 W (later (some (λ (δ : GName). ‵ (ShrSlice ℓ′ κ′ R .own (by-name zs δ) (sliceVal (c .ref .ptr) (length zs) ∷ [])) ⊛ ‵ (flent κ′ (arr-parts (shares R) (length zs) .part fullShare zs a o)))))
+          (lends-shr-slice 𝓤 H A W R ℓ′ κ′ fullShare zs a o (p .1)) $ await ! tt $ pick ! (λ δ. split ! $
+          rewrite ! 0 (λ (us : List Val). ‵ (ShrSlice ℓ′ κ′ R .own (by-name zs δ) us)) (sym (p .0)) refl $
+          at-once ! $ show ! (λ (δ′ : GName). sep 𝓤 (sem 𝓤 H A (shared zs δ′)) (sem 𝓤 H A (LentShared zs))) δ $ frame ! $
+          move ! (2 ∷ 3 ∷ []) $ fjoin ! $ move ! (2 ∷ 0 ∷ []) $ fjoin ! $ move ! (1 ∷ 0 ∷ []) $ fjoin ! $ done !))
+
+      pub shared-back : (zs : List (R .Denot)) → Room R n → length zs ≡ n → ent 𝓤 (sep 𝓤 (A .dead κ′) (sem 𝓤 H A (LentShared zs))) (H .⇛ (sep 𝓤 (sem 𝓤 H A (mine zs)) (A .lft (c .κ) (c .q))))
+      shared-back zs room e =
+          qed W (‵ (fdead κ′) ∷ ‵ (LentShared zs) ∷ []) ∵ updating ! $ move ! (1 ∷ []) $ fsplit ! $ move ! (2 ∷ 0 ∷ []) $ lent-back ! tt $ fsplit ! $ drop ! $
+          move ! (1 ∷ []) $ fsplit ! $ move ! (1 ∷ []) $ fsplit ! $ move ! (3 ∷ 2 ∷ 0 ∷ 1 ∷ []) $ closes-slice ! tt R zs zs refl a o $ at-once ! $
+          fjoin ! $ pureI ! (at-slice R (at zs) (val ∷ [])) (tt, (tt, tt)) (ap (λ (m : ℕ). sliceVal (c .ref .ptr) m ∷ []) (sym e), subst (Room R) (sym e) room) $ fjoin ! $ done !

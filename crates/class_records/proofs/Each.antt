@@ -7,9 +7,9 @@ use lib.ListN.{length, getD, replicate}
 use Rattle.reads.specs.Answer.{Answer, accept, refuse}
 use Rattle.reads.specs.Tables.{padded, after}
 use Rattle.attributes.specs.declared.Attribute.{Attribute as FramedAttribute}
-use Rattle.members.specs.Members.{Whole}
-use Rattle.members.specs.Lent.{Columns}
-use Rattle.classfile.specs.Class.{Class}
+use Rattle.class.specs.Members.{Whole}
+use Rattle.class.specs.Class.{Class}
+use Rattle.class.specs.Columns.{Columns}
 use Rattle.records.specs.declared.Member.{Member}
 use Rattle.records.specs.declared.Attribute.{Attribute}
 use Rattle.records.specs.Records.{none, noAttribute}

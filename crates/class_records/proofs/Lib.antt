@@ -1,5 +1,4 @@
 mod Again
 pub mod Each
-pub mod Once
 pub mod Recorded
 pub mod Within

@@ -1,72 +1,37 @@
 -- A class that is read with a part of the flags and of the attributes' names lent on: the room is the least of the columns' and of what may be used, and the cells after the part stay zero. Assumes nothing.
 use mathlib.Core.Path.{_≡_, refl, ap, sym, subst, _∙_}
-use mathlib.Core.Bool.{Bool}
-use mathlib.Core.List.{List, _++_, map, append-assoc}
+use mathlib.Core.List.{List, _++_, append-assoc}
 use Prim.Native.Nat.{ℕ, zero, suc, _+_, _-_, _≤_, min}
 use native.Mathlib.Omega.{arith}
 use native.Mathlib.Nat.{sub-zero, zero-sub, min-eq-right}
-use lib.ListN.{length, take, drop, replicate, length-take, length-append, length-replicate, replicate-append-replicate}
+use lib.ListN.{length, take, drop, replicate, length-take, length-replicate, replicate-append-replicate}
 use Rattle.reads.specs.Answer.{Answer, accept, refuse, mapped}
 use Rattle.reads.specs.Tables.{padded, after}
-use Rattle.reads.proofs.Answers.{first}
-use Rattle.pool.specs.Pool.{Pool}
-use Rattle.checks.specs.Checks.{pool}
+use Rattle.reads.proofs.Answers.{first, whole-of}
 use Rattle.attributes.specs.declared.Attribute.{Attribute}
-use Rattle.header.specs.Header.{headAt, interfacesAt}
-use Rattle.header.proofs.Placed.{whole-of}
-use Rattle.members.specs.Members.{Whole, bothAt}
-use Rattle.members.specs.Lent.{Columns, memberRoom, attributeRoom, gathered, ofEach}
-use Rattle.sorts.proofs.Turns.{map-length}
-use Rattle.members.proofs.Both.{both-in}
-use Rattle.tables.specs.Rest.{Tables, ownAt, tablesAt, memberCells, attributeCells, tabled}
-use Rattle.tables.proofs.Own.{own-in}
-use Rattle.classfile.specs.declared.Class.{Class as ClassValue}
-use Rattle.classfile.specs.Class.{Rooms, Listed, Rest, Class, marked, roomsOf, listedAt, restAt, classFile}
-use Rattle.classfile.specs.Readings.{classOf}
+use Rattle.class.specs.declared.Class.{Class as ClassValue}
+use Rattle.class.specs.Members.{Whole}
+use Rattle.class.specs.Class.{Rooms, Tables, Class, marked, frontAt, tablesAt, classFile}
+use Rattle.class.specs.Columns.{Flags, Names, Types, Firsts, Counts, number, Titles, Bodies, Lengths, part, Columns, lent, memberRoom, attributeRoom, memberCells, attributeCells, tabled, roomsOf}
+use Rattle.class.specs.Readings.{classOf}
+use Rattle.class.proofs.Rows.{all-numbers, all-parts}
+use Rattle.class.proofs.Tabled.{tables-in}
 use Rattle.class_records.specs.ClassRecords.{roomsWith, classWith}
 
 -- ---- an accepted file's members and attributes have their room
 
 pub record Fits (rooms : Rooms) (t : Tables) : Type 0 where
-  pub members : length (t .members .fields ++ t .members .methods) ≤ rooms .members
+  pub members : (f : Whole → ℕ) → length (memberCells f t) ≤ rooms .members
   pub attributes : (f : Attribute → ℕ) → length (attributeCells f t) ≤ rooms .attributes
 
-unwrap : {A : Type 0} {a b : A} → accept a ≡ accept b → a ≡ b
-unwrap e = cc
-
-tables-fit : (interface : Bool) (p : Pool) (rooms : Rooms) (at : ℕ) (t : Tables) → accept t ≡ tablesAt interface p (rooms .members) (rooms .attributes) at → Fits rooms t
-unfolding tablesAt
-tables-fit interface p rooms at t e =
-    let b = first (bothAt interface p (rooms .members) (rooms .attributes) at) _ t e in
-    let o = first (ownAt p (rooms .attributes) (b .0 .used) (b .0 .next)) _ t (b .2) in
-    let i = both-in interface p (rooms .members) (rooms .attributes) at (b .0) (b .1) in
-    let w = own-in p (rooms .attributes) (b .0 .used) (b .0 .next) (o .0) (o .1) (i .within) in
-    subst (Fits rooms) (sym (unwrap (o .2)))
-    (record {
-      members = i .fits;
-      attributes = λ f. (let l = length-append (gathered (ofEach f) (b .0 .fields ++ b .0 .methods)) (map f (o .0 .list)) in let g = map-length f (o .0 .list) in omega (arith, i .used f, w));
-    })
-
-listed-fit : (interface : Bool) (p : Pool) (rooms : Rooms) (at : ℕ) (l : Listed) → accept l ≡ listedAt interface p rooms at → Fits rooms (l .tables)
-unfolding listedAt
-listed-fit interface p rooms at l e =
-    let i = first (interfacesAt p (rooms .interfaces) at) _ l e in
-    let t = first (tablesAt interface p (rooms .members) (rooms .attributes) (i .0 .end)) _ l (i .2) in
-    subst (λ (x : Listed). Fits rooms (x .tables)) (sym (unwrap (t .2))) (tables-fit interface p rooms (i .0 .end) (t .0) (t .1))
-
-rest-fit : (p : Pool) (rooms : Rooms) (at : ℕ) (r : Rest) → accept r ≡ restAt p rooms at → Fits rooms (r .listed .tables)
-unfolding restAt
-rest-fit p rooms at r e =
-    let h = first (headAt p at) _ r e in
-    let l = first (listedAt (marked (h .0 .flags)) p rooms (at + 6)) _ r (h .2) in
-    subst (λ (x : Rest). Fits rooms (x .listed .tables)) (sym (unwrap (l .2))) (listed-fit (marked (h .0 .flags)) p rooms (at + 6) (l .0) (l .1))
-
-pub class-fits : (s : List ℕ) (rooms : Rooms) (x : Class) → accept x ≡ classFile s rooms → Fits rooms (x .rest .listed .tables)
+pub class-fits : (s : List ℕ) (rooms : Rooms) (x : Class) → accept x ≡ classFile s rooms → Fits rooms (x .tables)
 unfolding classFile
 class-fits s rooms x e =
-    let w = first (pool s (rooms .cells)) _ x e in
-    let r = first (restAt (w .0 .pool) rooms (w .0 .next)) _ x (w .2) in
-    subst (λ (y : Class). Fits rooms (y .rest .listed .tables)) (sym (unwrap (r .2))) (rest-fit (w .0 .pool) rooms (w .0 .next) (r .0) (r .1))
+    let f = first (frontAt s (rooms .cells) (rooms .interfaces)) _ x e in
+    let t = first (tablesAt (marked (f .0 .head .flags)) (f .0 .pool .pool) (rooms .members) (rooms .attributes) (f .0 .next)) _ x (f .2) in
+    let i = tables-in (marked (f .0 .head .flags)) (f .0 .pool .pool) (rooms .members) (rooms .attributes) (f .0 .next) (t .0) (t .1) in
+    let h : x ≡ record { front = f .0; tables = t .0 } = cc in
+    rw h (record { members = i .0; attributes = i .1 })
 
 -- where no table of records is shorter than its columns, the file is answered as `read_class` answers it
 pub as-read-class : (s : List ℕ) (room len n k : ℕ) (c : Columns) → memberRoom c ≤ n → attributeRoom c ≤ k → classWith s room len c n k ≡ classFile s (roomsOf room len c)
@@ -107,54 +72,61 @@ min-assoc a b c = omega arith
 
 -- ---- what the call leaves
 
-module _ (s : List ℕ) (room len n k m j : ℕ) (c : Columns) (flags titles : List ℕ) (z : flags ≡ replicate (length (c .flags)) 0) (e : m ≡ min n (length (c .flags))) (y : titles ≡ replicate (length (c .attributes)) 0) (g : j ≡ min k (length (c .attributes))) where
+module _ (s : List ℕ) (room len n k m j : ℕ) (c : Columns) (flags titles : List ℕ) (z : flags ≡ replicate (length (c .member Flags)) 0) (e : m ≡ min n (length (c .member Flags)))
+    (y : titles ≡ replicate (length (c .attribute Titles)) 0) (g : j ≡ min k (length (c .attribute Titles))) where
+  -- the columns with other flags and names of attributes
+  abbrev with-these : List ℕ → List ℕ → Columns → Columns
+  with-these a b d = lent a (d .member Names) (d .member Types) (d .member Firsts) (d .member Counts) b (d .attribute Bodies) (d .attribute Lengths)
+
   -- the columns that are lent on
   abbrev cut : Columns
-  cut = record { flags = take m flags; names = c .names; types = c .types; firsts = c .firsts; counts = c .counts; attributes = take j titles; bodies = c .bodies; lengths = c .lengths }
+  cut = with-these (take m flags) (take j titles) c
 
   fewer : memberRoom cut ≡ min n (memberRoom c)
+  unfolding memberRoom
   fewer =
-      let others = min (length (c .types)) (length (c .firsts)) in
-      ap (λ (i : ℕ). min (min (min i (length (c .names))) others) (length (c .counts))) (sym (part-long n m (c .flags) flags z e) ∙ e)
-      ∙ ap (λ (i : ℕ). min (min i others) (length (c .counts))) (min-assoc n (length (c .flags)) (length (c .names)))
-      ∙ ap (λ (i : ℕ). min i (length (c .counts))) (min-assoc n (min (length (c .flags)) (length (c .names))) others)
-      ∙ min-assoc n (min (min (length (c .flags)) (length (c .names))) others) (length (c .counts))
+      let others = min (length (c .member Names)) (min (length (c .member Types)) (min (length (c .member Firsts)) (length (c .member Counts)))) in
+      ap (λ (i : ℕ). min i others) (sym (part-long n m (c .member Flags) flags z e) ∙ e) ∙ min-assoc n (length (c .member Flags)) others
 
   fewer-attributes : attributeRoom cut ≡ min k (attributeRoom c)
   fewer-attributes =
-      ap (λ (i : ℕ). min (min i (length (c .bodies))) (length (c .lengths))) (sym (part-long k j (c .attributes) titles y g) ∙ g)
-      ∙ ap (λ (i : ℕ). min i (length (c .lengths))) (min-assoc k (length (c .attributes)) (length (c .bodies)))
-      ∙ min-assoc k (min (length (c .attributes)) (length (c .bodies))) (length (c .lengths))
+      let bodies = length (c .attribute Bodies) in
+      let lengths = length (c .attribute Lengths) in
+      ap (λ (i : ℕ). min (min i bodies) lengths) (sym (part-long k j (c .attribute Titles) titles y g) ∙ g)
+      ∙ ap (λ (i : ℕ). min i lengths) (min-assoc k (length (c .attribute Titles)) bodies)
+      ∙ min-assoc k (min (length (c .attribute Titles)) bodies) lengths
 
   rooms : roomsOf room len cut ≡ roomsWith room len c n k
   rooms = λ i. record { cells = room; interfaces = len; members = fewer i; attributes = fewer-attributes i }
 
   -- the answer and the tables, where a call answered so
   abbrev Leaves : Columns → Answer ClassValue → List ℕ → List ℕ → Columns → Answer Class → Type 0
-  Leaves into x table list d a = (x ≡ mapped classOf a) × ((table ≡ after 0 (λ q. q .pool .pool .cells) room a) × ((list ≡ after 0 (λ q. q .rest .listed .interfaces) len a) × (d ≡ tabled into (mapped (λ q. q .rest .listed .tables) a))))
+  Leaves into x table list d a = (x ≡ mapped classOf a)
+      × ((table ≡ after 0 (λ q. q .front .pool .pool .cells) room a) × ((list ≡ after 0 (λ q. q .front .interfaces) len a) × (d ≡ tabled into (mapped (λ q. q .tables) a))))
 
   abbrev whole : Answer Tables
-  whole = mapped (λ q. q .rest .listed .tables) (classWith s room len c n k)
+  whole = mapped (λ q. q .tables) (classWith s room len c n k)
 
   all-fit : (t : Tables) → accept t ≡ whole → Fits (roomsWith room len c n k) t
   all-fit t h =
-      let w = whole-of (λ (q : Class). q .rest .listed .tables) (classWith s room len c n k) t h in
+      let w = whole-of (λ (q : Class). q .tables) (classWith s room len c n k) t h in
       subst (Fits (roomsWith room len c n k)) (w .2) (class-fits s (roomsWith room len c n k) (w .0) (w .1))
 
-  flags-fit : (t : Tables) → accept t ≡ whole → length (memberCells (λ w. w .member .flags) t) ≤ m
-  flags-fit t h =
-      let a = all-fit t h .members in
-      let b = map-length (λ (w : Whole). w .member .flags) (t .members .fields ++ t .members .methods) in
-      omega (arith, a, b, e)
+  flags-fit : (t : Tables) → accept t ≡ whole → length (memberCells (number Flags) t) ≤ m
+  unfolding memberRoom
+  flags-fit t h = omega (arith, all-fit t h .members (number Flags), e)
 
-  names-fit : (t : Tables) → accept t ≡ whole → length (attributeCells (λ a. a .name) t) ≤ j
-  names-fit t h = omega (arith, all-fit t h .attributes (λ a. a .name), g)
+  titles-fit : (t : Tables) → accept t ≡ whole → length (attributeCells (part Titles) t) ≤ j
+  titles-fit t h = omega (arith, all-fit t h .attributes (part Titles), g)
 
   pub within : (x : Answer ClassValue) (table list : List ℕ) (d : Columns) → Leaves cut x table list d (classFile s (roomsOf room len cut))
-      → Leaves c x table list (record { flags = d .flags ++ drop m flags; names = d .names; types = d .types; firsts = d .firsts; counts = d .counts; attributes = d .attributes ++ drop j titles; bodies = d .bodies; lengths = d .lengths }) (classWith s room len c n k)
+      → Leaves c x table list (with-these (d .member Flags ++ drop m flags) (d .attribute Titles ++ drop j titles) d) (classWith s room len c n k)
   within x table list d v =
       let u : Leaves cut x table list d (classWith s room len c n k) = subst (λ (r : Rooms). Leaves cut x table list d (classFile s r)) rooms v in
       let q = u .1 .1 .1 in
-      let f = whole-column n m (c .flags) flags z e (memberCells (λ w. w .member .flags)) whole (d .flags) (λ i. q i .flags) flags-fit in
-      let t = whole-column k j (c .attributes) titles y g (attributeCells (λ a. a .name)) whole (d .attributes) (λ i. q i .attributes) names-fit in
-      (u .0, (u .1 .0, (u .1 .1 .0, λ i. record { flags = f i; names = q i .names; types = q i .types; firsts = q i .firsts; counts = q i .counts; attributes = t i; bodies = q i .bodies; lengths = q i .lengths })))
+      let new = with-these (d .member Flags ++ drop m flags) (d .attribute Titles ++ drop j titles) d in
+      let f = whole-column n m (c .member Flags) flags z e (memberCells (number Flags)) whole (d .member Flags) (λ i. q i .member Flags) flags-fit in
+      let t = whole-column k j (c .attribute Titles) titles y g (attributeCells (part Titles)) whole (d .attribute Titles) (λ i. q i .attribute Titles) titles-fit in
+      let a = all-numbers (λ l. new .member l ≡ tabled c whole .member l) f (λ i. q i .member Names) (λ i. q i .member Types) (λ i. q i .member Firsts) (λ i. q i .member Counts) in
+      let b = all-parts (λ l. new .attribute l ≡ tabled c whole .attribute l) t (λ i. q i .attribute Bodies) (λ i. q i .attribute Lengths) in
+      (u .0, (u .1 .0, (u .1 .1 .0, λ i. record { member = λ l. a l i; attribute = λ l. b l i })))

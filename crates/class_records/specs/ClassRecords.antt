@@ -3,9 +3,9 @@ use Prim.Native.Nat.{ℕ, min}
 use mathlib.Core.List.{List, [], _∷_, _++_, map}
 use Rattle.reads.specs.Answer.{Answer}
 use Rattle.attributes.specs.declared.Attribute.{Attribute as FramedAttribute}
-use Rattle.members.specs.Members.{Whole}
-use Rattle.members.specs.Lent.{Columns, memberRoom, attributeRoom}
-use Rattle.classfile.specs.Class.{Rooms, Class, classFile}
+use Rattle.class.specs.Members.{Whole}
+use Rattle.class.specs.Class.{Rooms, Class, classFile}
+use Rattle.class.specs.Columns.{Columns, memberRoom, attributeRoom}
 use Rattle.records.specs.declared.Member.{Member}
 use Rattle.records.specs.declared.Attribute.{Attribute}
 
@@ -22,7 +22,7 @@ recordOf w = record { flags = w .member .flags; name = w .member .name; descript
 
 -- an accepted file's members: fields, then methods
 abbrev pub membersIn : Class → List Whole
-membersIn x = x .rest .listed .tables .members .fields ++ x .rest .listed .tables .members .methods
+membersIn x = x .tables .fields ++ x .tables .methods
 
 abbrev pub recordsOf : Class → List Member
 recordsOf x = map recordOf (membersIn x)
@@ -38,7 +38,7 @@ attributesOf (w ∷ ws) = w .attributes ++ attributesOf ws
 
 -- an accepted file's attributes: the members', then the class's own
 abbrev pub attributesIn : Class → List FramedAttribute
-attributesIn x = attributesOf (membersIn x) ++ x .rest .listed .tables .own
+attributesIn x = attributesOf (membersIn x) ++ x .tables .own
 
 abbrev pub attributeRecordsOf : Class → List Attribute
 attributeRecordsOf x = map attributeRecordOf (attributesIn x)

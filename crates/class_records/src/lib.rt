@@ -1,25 +1,18 @@
 // A whole class file, with its members and attributes as records too.
-use classfile::ClassAnswer;
+use class::ClassAnswer;
 use records::Attribute;
 use records::Member;
 ghost use mathlib.Core.Path.{_≡_};
-ghost use Prim.Native.Nat.{min};
 ghost use lib.ListN.{length};
 ghost use Rattle.reads.specs.Answer.{mapped};
 ghost use Rattle.reads.specs.Promise.{Is};
 ghost use Rattle.reads.specs.Tables.{after};
-ghost use Rattle.tables.specs.Rest.{tabled};
-ghost use Rattle.classfile.specs.Readings.{classOf, readingClass};
+ghost use Rattle.class.specs.Columns.{lent, tabled};
+ghost use Rattle.class.specs.Readings.{classOf, readingClass};
 ghost use Rattle.records.specs.Records.{none, noAttribute};
 ghost use Rattle.class_records.specs.ClassRecords.{classWith, recordsOf, attributeRecordsOf};
 
-fn least(a: usize, b: usize) -> usize
-    ensures { λ r. ⌜ r ≡ min a b ⌝ }
-{
-    if a <= b { a } else { b }
-}
-
-// A class file into lent tables, as `classfile::read_class` reads it, with room for at most so many member records and attribute records: the
+// A class file into lent tables, as `class::read_class` reads it, with room for at most so many member records and attribute records: the
 // flags and the attributes' names are made zero, and only so many of them are lent on.
 fn read_within<'c>(
     file: &[u8],
@@ -36,16 +29,23 @@ fn read_within<'c>(
     most: usize,
     limit: usize,
 ) -> ClassAnswer
-    ensures answer { λ r. ⌜ Is readingClass (mapped classOf (classWith (now (file .entry)) (length (now (table .entry))) (length (now (interfaces .entry))) (record { flags = now (flags .entry); names = now (names .entry); types = now (types .entry); firsts = now (firsts .entry); counts = now (counts .entry); attributes = now (titles .entry); bodies = now (bodies .entry); lengths = now (lengths .entry) }) most limit)) r ⌝ }
-    ensures table { λ r. ⌜ now (table .exit) ≡ after 0 (λ x. x .pool .pool .cells) (length (now (table .entry))) (classWith (now (file .entry)) (length (now (table .entry))) (length (now (interfaces .entry))) (record { flags = now (flags .entry); names = now (names .entry); types = now (types .entry); firsts = now (firsts .entry); counts = now (counts .entry); attributes = now (titles .entry); bodies = now (bodies .entry); lengths = now (lengths .entry) }) most limit) ⌝ }
-    ensures interfaces { λ r. ⌜ now (interfaces .exit) ≡ after 0 (λ x. x .rest .listed .interfaces) (length (now (interfaces .entry))) (classWith (now (file .entry)) (length (now (table .entry))) (length (now (interfaces .entry))) (record { flags = now (flags .entry); names = now (names .entry); types = now (types .entry); firsts = now (firsts .entry); counts = now (counts .entry); attributes = now (titles .entry); bodies = now (bodies .entry); lengths = now (lengths .entry) }) most limit) ⌝ }
-    ensures columns { λ r. ⌜ record { flags = now (flags .exit); names = now (names .exit); types = now (types .exit); firsts = now (firsts .exit); counts = now (counts .exit); attributes = now (titles .exit); bodies = now (bodies .exit); lengths = now (lengths .exit) } ≡ tabled (record { flags = now (flags .entry); names = now (names .entry); types = now (types .entry); firsts = now (firsts .entry); counts = now (counts .entry); attributes = now (titles .entry); bodies = now (bodies .entry); lengths = now (lengths .entry) }) (mapped (λ x. x .rest .listed .tables) (classWith (now (file .entry)) (length (now (table .entry))) (length (now (interfaces .entry))) (record { flags = now (flags .entry); names = now (names .entry); types = now (types .entry); firsts = now (firsts .entry); counts = now (counts .entry); attributes = now (titles .entry); bodies = now (bodies .entry); lengths = now (lengths .entry) }) most limit)) ⌝ }
+    ensures answer { λ r.
+        let c = lent (now (flags .entry)) (now (names .entry)) (now (types .entry)) (now (firsts .entry)) (now (counts .entry)) (now (titles .entry)) (now (bodies .entry)) (now (lengths .entry)) in
+        let x = classWith (now (file .entry)) (length (now (table .entry))) (length (now (interfaces .entry))) c most limit in
+        ⌜ Is readingClass (mapped classOf x) r ⌝ }
+    ensures tables { λ r.
+        let c = lent (now (flags .entry)) (now (names .entry)) (now (types .entry)) (now (firsts .entry)) (now (counts .entry)) (now (titles .entry)) (now (bodies .entry)) (now (lengths .entry)) in
+        let d = lent (now (flags .exit)) (now (names .exit)) (now (types .exit)) (now (firsts .exit)) (now (counts .exit)) (now (titles .exit)) (now (bodies .exit)) (now (lengths .exit)) in
+        let x = classWith (now (file .entry)) (length (now (table .entry))) (length (now (interfaces .entry))) c most limit in
+        ⌜ (now (table .exit) ≡ after 0 (λ x. x .front .pool .pool .cells) (length (now (table .entry))) x)
+        × ((now (interfaces .exit) ≡ after 0 (λ x. x .front .interfaces) (length (now (interfaces .entry))) x)
+        × (d ≡ tabled c (mapped (λ x. x .tables) x))) ⌝ }
 {
-    let room = least(most, flags.len());
-    let framed = least(limit, titles.len());
+    let room = reads::least(most, flags.len());
+    let framed = reads::least(limit, titles.len());
     reads::clear_list(flags);
     reads::clear_list(titles);
-    classfile::read_class(
+    class::read_class(
         file,
         table,
         interfaces,
@@ -60,7 +60,7 @@ fn read_within<'c>(
     )
 }
 
-// A class file, into lent tables: those of `classfile::read_class`, a table of member records, one for each field and then for each method, and
+// A class file, into lent tables: those of `class::read_class`, a table of member records, one for each field and then for each method, and
 // one of attribute records, in file order, the class's own last. The shortest of the member columns and of the first says the room of members,
 // the shortest of the attribute columns and of the second that of attributes. Records past those used are zero; after a refusal every one is.
 pub fn read_class_records(
@@ -78,12 +78,22 @@ pub fn read_class_records(
     records: &mut [Member],
     attributes: &mut [Attribute],
 ) -> ClassAnswer
-    ensures answer { λ r. ⌜ Is readingClass (mapped classOf (classWith (now (file .entry)) (length (now (table .entry))) (length (now (interfaces .entry))) (record { flags = now (flags .entry); names = now (names .entry); types = now (types .entry); firsts = now (firsts .entry); counts = now (counts .entry); attributes = now (titles .entry); bodies = now (bodies .entry); lengths = now (lengths .entry) }) (length (now (records .entry))) (length (now (attributes .entry))))) r ⌝ }
-    ensures table { λ r. ⌜ now (table .exit) ≡ after 0 (λ x. x .pool .pool .cells) (length (now (table .entry))) (classWith (now (file .entry)) (length (now (table .entry))) (length (now (interfaces .entry))) (record { flags = now (flags .entry); names = now (names .entry); types = now (types .entry); firsts = now (firsts .entry); counts = now (counts .entry); attributes = now (titles .entry); bodies = now (bodies .entry); lengths = now (lengths .entry) }) (length (now (records .entry))) (length (now (attributes .entry)))) ⌝ }
-    ensures interfaces { λ r. ⌜ now (interfaces .exit) ≡ after 0 (λ x. x .rest .listed .interfaces) (length (now (interfaces .entry))) (classWith (now (file .entry)) (length (now (table .entry))) (length (now (interfaces .entry))) (record { flags = now (flags .entry); names = now (names .entry); types = now (types .entry); firsts = now (firsts .entry); counts = now (counts .entry); attributes = now (titles .entry); bodies = now (bodies .entry); lengths = now (lengths .entry) }) (length (now (records .entry))) (length (now (attributes .entry)))) ⌝ }
-    ensures columns { λ r. ⌜ record { flags = now (flags .exit); names = now (names .exit); types = now (types .exit); firsts = now (firsts .exit); counts = now (counts .exit); attributes = now (titles .exit); bodies = now (bodies .exit); lengths = now (lengths .exit) } ≡ tabled (record { flags = now (flags .entry); names = now (names .entry); types = now (types .entry); firsts = now (firsts .entry); counts = now (counts .entry); attributes = now (titles .entry); bodies = now (bodies .entry); lengths = now (lengths .entry) }) (mapped (λ x. x .rest .listed .tables) (classWith (now (file .entry)) (length (now (table .entry))) (length (now (interfaces .entry))) (record { flags = now (flags .entry); names = now (names .entry); types = now (types .entry); firsts = now (firsts .entry); counts = now (counts .entry); attributes = now (titles .entry); bodies = now (bodies .entry); lengths = now (lengths .entry) }) (length (now (records .entry))) (length (now (attributes .entry))))) ⌝ }
-    ensures records { λ r. ⌜ now (records .exit) ≡ after none recordsOf (length (now (records .entry))) (classWith (now (file .entry)) (length (now (table .entry))) (length (now (interfaces .entry))) (record { flags = now (flags .entry); names = now (names .entry); types = now (types .entry); firsts = now (firsts .entry); counts = now (counts .entry); attributes = now (titles .entry); bodies = now (bodies .entry); lengths = now (lengths .entry) }) (length (now (records .entry))) (length (now (attributes .entry)))) ⌝ }
-    ensures attributes { λ r. ⌜ now (attributes .exit) ≡ after noAttribute attributeRecordsOf (length (now (attributes .entry))) (classWith (now (file .entry)) (length (now (table .entry))) (length (now (interfaces .entry))) (record { flags = now (flags .entry); names = now (names .entry); types = now (types .entry); firsts = now (firsts .entry); counts = now (counts .entry); attributes = now (titles .entry); bodies = now (bodies .entry); lengths = now (lengths .entry) }) (length (now (records .entry))) (length (now (attributes .entry)))) ⌝ }
+    ensures answer { λ r.
+        let c = lent (now (flags .entry)) (now (names .entry)) (now (types .entry)) (now (firsts .entry)) (now (counts .entry)) (now (titles .entry)) (now (bodies .entry)) (now (lengths .entry)) in
+        let x = classWith (now (file .entry)) (length (now (table .entry))) (length (now (interfaces .entry))) c (length (now (records .entry))) (length (now (attributes .entry))) in
+        ⌜ Is readingClass (mapped classOf x) r ⌝ }
+    ensures tables { λ r.
+        let c = lent (now (flags .entry)) (now (names .entry)) (now (types .entry)) (now (firsts .entry)) (now (counts .entry)) (now (titles .entry)) (now (bodies .entry)) (now (lengths .entry)) in
+        let d = lent (now (flags .exit)) (now (names .exit)) (now (types .exit)) (now (firsts .exit)) (now (counts .exit)) (now (titles .exit)) (now (bodies .exit)) (now (lengths .exit)) in
+        let x = classWith (now (file .entry)) (length (now (table .entry))) (length (now (interfaces .entry))) c (length (now (records .entry))) (length (now (attributes .entry))) in
+        ⌜ (now (table .exit) ≡ after 0 (λ x. x .front .pool .pool .cells) (length (now (table .entry))) x)
+        × ((now (interfaces .exit) ≡ after 0 (λ x. x .front .interfaces) (length (now (interfaces .entry))) x)
+        × (d ≡ tabled c (mapped (λ x. x .tables) x))) ⌝ }
+    ensures records { λ r.
+        let c = lent (now (flags .entry)) (now (names .entry)) (now (types .entry)) (now (firsts .entry)) (now (counts .entry)) (now (titles .entry)) (now (bodies .entry)) (now (lengths .entry)) in
+        let x = classWith (now (file .entry)) (length (now (table .entry))) (length (now (interfaces .entry))) c (length (now (records .entry))) (length (now (attributes .entry))) in
+        ⌜ (now (records .exit) ≡ after none recordsOf (length (now (records .entry))) x)
+        × (now (attributes .exit) ≡ after noAttribute attributeRecordsOf (length (now (attributes .entry))) x) ⌝ }
 {
     let answer = read_within(
         file,

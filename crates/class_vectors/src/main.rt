@@ -1,7 +1,7 @@
 // Runs class files: a line says how large the lent tables are, and the bytes in hexadecimal, or a file of data/. Written are the
 // answer and every lent table, whole.
-use classfile::Class;
-use classfile::ClassAnswer;
+use class::Class;
+use class::ClassAnswer;
 ghost use mathlib.Core.Path.{_≡_};
 ghost use Prim.Native.Nat.{_≤_};
 ghost use lib.ListN.{length, take};
@@ -20,20 +20,18 @@ fn print_list(name: &[u8], list: &[u16]) {
 }
 
 fn print_class(c: Class) {
-    let a = c.after;
-    let l = a.lists;
     script::print(b"accepted");
     script::print_field(c.slots as u64);
     script::print_field(c.minor as u64);
     script::print_field(c.major as u64);
-    script::print_field(a.flags as u64);
-    script::print_field(a.this as u64);
-    script::print_field(a.parent as u64);
-    script::print_field(l.interfaces as u64);
-    script::print_field(l.fields as u64);
-    script::print_field(l.methods as u64);
-    script::print_field(l.used as u64);
-    script::print_field(l.own as u64);
+    script::print_field(c.flags as u64);
+    script::print_field(c.this as u64);
+    script::print_field(c.parent as u64);
+    script::print_field(c.interfaces as u64);
+    script::print_field(c.fields as u64);
+    script::print_field(c.methods as u64);
+    script::print_field(c.used as u64);
+    script::print_field(c.own as u64);
 }
 
 fn print_answer(answer: ClassAnswer) {
@@ -64,7 +62,7 @@ fn show(
     bodies: &mut [u32],
     lengths: &mut [u32],
 ) {
-    let answer = classfile::read_class(
+    let answer = class::read_class(
         file,
         table,
         interfaces,

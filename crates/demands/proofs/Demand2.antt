@@ -15,9 +15,11 @@ use Rattle.checks.specs.Checks.{checked, pool}
 use Rattle.handed.specs.Handed.{agree, judged, noLimit, handed, lookup}
 use Rattle.handed.proofs.Own.{left, on-own}
 use Rattle.dependants.specs.Dependants.{dependants}
-use Rattle.classfile.specs.Class.{Class, Rooms, restAt, classFile}
-use Rattle.classfile.specs.Readings.{classOf}
-use Rattle.sound.proofs.Accepted.{SoundClass, class-sound}
+use Rattle.class.specs.Class.{Class, Rooms, marked, frontAt, tablesAt, classFile}
+use Rattle.class.specs.Readings.{classOf}
+use Rattle.class.proofs.Fronts.{front-pool}
+use Rattle.sound.specs.Sound.{SoundTables}
+use Rattle.sound.proofs.Accepted.{class-sound}
 use Rattle.cells.specs.Cells.{cellsIn}
 use Rattle.cases.specs.Cases.{Shown, cases, A-to-P}
 use Rattle.demands.specs.Calls.{bytesAfter}
@@ -41,28 +43,28 @@ pool-room = pool-less
 
 module _ (s : List ℕ) (rooms : Rooms) where
   -- an accepted class has the pool that the pool call accepts ..
-  pub class-pool : (c : Class) → accept c ≡ classFile s rooms → accept (c .pool) ≡ pool s (rooms .cells)
+  pub class-pool : (c : Class) → accept c ≡ classFile s rooms → accept (c .front .pool) ≡ pool s (rooms .cells)
   unfolding classFile
   class-pool c e =
-      let w = first (pool s (rooms .cells)) _ c e in
-      let r = first (restAt (w .0 .pool) rooms (w .0 .next)) _ c (w .2) in
-      ap (λ (x : Class). accept (x .pool)) (same (r .2)) ∙ w .1
+      let f = first (frontAt s (rooms .cells) (rooms .interfaces)) _ c e in
+      let t = first (tablesAt (marked (f .0 .head .flags)) (f .0 .pool .pool) (rooms .members) (rooms .attributes) (f .0 .next)) _ c (f .2) in
+      ap (λ (x : Class). accept (x .front .pool)) (same (t .2)) ∙ front-pool s (rooms .cells) (rooms .interfaces) (f .0) (f .1)
 
   -- .. and answers the same P, minor and major
-  pub class-numbers : (c : Class) → (classOf c .slots ≡ headOf (c .pool) .slots) × (classOf c .minor ≡ headOf (c .pool) .minor) × (classOf c .major ≡ headOf (c .pool) .major)
+  pub class-numbers : (c : Class) → let h = headOf (c .front .pool) in (classOf c .slots ≡ h .slots) × (classOf c .minor ≡ h .minor) × (classOf c .major ≡ h .major)
   class-numbers c = (refl, refl, refl)
 
   -- .. and leaves the same cells
-  pub class-cells : (c : Class) → accept c ≡ classFile s rooms → after 0 (λ x. x .pool .pool .cells) (rooms .cells) (classFile s rooms) ≡ after 0 (λ w. w .pool .cells) (rooms .cells) (pool s (rooms .cells))
+  pub class-cells : (c : Class) → accept c ≡ classFile s rooms → after 0 (λ x. x .front .pool .pool .cells) (rooms .cells) (classFile s rooms) ≡ after 0 (λ w. w .pool .cells) (rooms .cells) (pool s (rooms .cells))
   class-cells c e = rw (← e, ← class-pool c e) refl
 
   -- what the pool call refuses the class call refuses, with the same number and place
   pub class-refused : (nr place : ℕ) → refuse nr place ≡ pool s (rooms .cells) → refuse nr place ≡ classFile s rooms
-  unfolding classFile
+  unfolding classFile frontAt
   class-refused nr place e = rw (← e) refl
 
-  -- the tables of an accepted class are sound
-  pub class-tables : (c : Class) → accept c ≡ classFile s rooms → SoundClass c
+  -- the tables of an accepted class are sound, from the byte where the fields' number stands
+  pub class-tables : (c : Class) → accept c ≡ classFile s rooms → SoundTables (c .front .pool .pool) (c .front .next) (c .tables)
   class-tables = class-sound s rooms
 
 -- ---- a handed table, and every lookup on it
@@ -106,8 +108,9 @@ pub lookup-on-own : (s : List ℕ) → Bytes s → (room : ℕ) (w : Whole) → 
 lookup-on-own s b room w e f = on-own s _ w (left s b room w e) f
 
 -- .. and so it does on the table that the class call leaves
-pub lookup-on-class : (s : List ℕ) → Bytes s → (rooms : Rooms) (c : Class) → accept c ≡ classFile s rooms → {A : Type 0} (f : Pool → Answer A) → lookup s (after 0 (λ x. x .pool .pool .cells) (rooms .cells) (classFile s rooms)) f ≡ f (c .pool .pool)
-lookup-on-class s b rooms c e f = rw (class-cells s rooms c e) (lookup-on-own s b (rooms .cells) (c .pool) (class-pool s rooms c e) f)
+pub lookup-on-class : (s : List ℕ) → Bytes s → (rooms : Rooms) (c : Class) → accept c ≡ classFile s rooms → {A : Type 0} (f : Pool → Answer A) →
+    lookup s (after 0 (λ x. x .front .pool .pool .cells) (rooms .cells) (classFile s rooms)) f ≡ f (c .front .pool .pool)
+lookup-on-class s b rooms c e f = rw (class-cells s rooms c e) (lookup-on-own s b (rooms .cells) (c .front .pool) (class-pool s rooms c e) f)
 
 -- ---- on bytes: the tables that the calls for C leave stand for those that the calls on cells leave
 

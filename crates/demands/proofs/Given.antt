@@ -1,34 +1,35 @@
 -- Files that are refused with each number: no list of numbers has one that is never given. Assumes nothing.
 use Prim.Native.Nat.{ℕ, _<_}
 use mathlib.Core.Path.{_≡_, refl}
-use mathlib.Core.List.{List, [], _∷_, List·Memᴰ·cases-cons, List·Memᴰ·not-nil, List·Memᴰ·append-cases, List·Memᴰ·eq-of-singleton}
+use mathlib.Core.Bool.{true}
+use mathlib.Core.List.{List, [], _∷_, _++_, List·Memᴰ·cases-cons, List·Memᴰ·not-nil, List·Memᴰ·append-cases, List·Memᴰ·eq-of-singleton}
 use mathlib.Core.Logic.{⊎-elim}
 use lib.ListN.{length, replicate, length-replicate}
 use native.Mathlib.Omega.{arith}
 use borrow.Author.Tests.{lt-leb}
 use Rattle.reads.specs.Answer.{Answer, refuse, each}
 use Rattle.reads.specs.Bytes.{within, u1, u2, u4, skipped}
-use Rattle.text.specs.Text.{oneOf, noneOf, before, same, begins, formLength, covered, textForm, isText, unqualified, onto, split, allOf, binary, follows, walked, whole, isInit, isClinit, isBootstrapMethods, methodName, escape, moduleByte, moduleForm, moduleName}
+use Rattle.text.specs.Text.{oneOf, noneOf, before, same, begins, formLength, covered, textForm, isText, unqualified, onto, split, allOf, binary, follows, walked, whole, isInit, isClinit, bootstrapMethods, isBootstrapMethods, methodName, escape, moduleByte, moduleForm, moduleName}
 use Rattle.descriptors.specs.Descriptors.{stands, classLength, onMore, baseLength, typeLength, depth, fieldDescriptor, arrayDescriptor, returnDescriptor, closing, returned, methodDescriptor, returnsVoid, takesNothing}
 use Rattle.pool.specs.Kinds.{has}
 use Rattle.pool.specs.Rows.{rowOf}
 use Rattle.pool.specs.Pool.{Pool, secondWidth, wide, entryAt, slotAt, entries, allEntries, headerOf, readPool}
-use Rattle.slot.specs.Slots.{tagOf, field, bytesOf, ofKind, textAt, textOf, className, classText, typed}
+use Rattle.slot.specs.Slots.{tagOf, field, bytesOf, ofKind, textAt, utf8At, textOf, className, classText, typed}
 use Rattle.checks.specs.Checks.{reference, references, handled, handle, member, nameAndType, obey, checked, pool}
 use Rattle.handed.specs.Handed.{agree, judged, noLimit, handed, lookup}
 use Rattle.bootstrap.specs.Bootstrap.{isBootstrap, bodyU2, indexAt, steps, methodAt, bootstrapBody, ownRule}
 use Rattle.bootstrap.specs.Indices.{bootstraps, belowEach, dynamic, bootstrapIndex, bootstrapIndices}
-use Rattle.attributes.specs.Records.{records}
-use Rattle.attributes.specs.Attributes.{utf8At, attributeAt, ruled, recordAt}
+use Rattle.reads.specs.Records.{records}
+use Rattle.attributes.specs.Attributes.{attributeAt, ruled, recordAt}
 use Rattle.member.specs.Member.{masked, goodName, goodType, goodText, shape, goodShape, alike, twice, textIn, partsAt, memberAt}
-use Rattle.header.specs.Header.{classAt, superAt, headAt, interfaceAt, interfacesAt}
-use Rattle.members.specs.Members.{wholeAt, sortAt, bothAt}
-use Rattle.tables.specs.Rest.{endAt, ownAt, tablesAt}
-use Rattle.classfile.specs.Class.{Rooms, marked, listedAt, restAt, classFile}
+use Rattle.class_head.specs.Header.{classAt, superAt, headAt, interfaceAt, interfacesAt}
+use Rattle.class.specs.Members.{wholeAt, sortAt}
+use Rattle.class.specs.Class.{Rooms, marked, frontAt, endAt, ownAt, tablesAt, classFile}
 use Rattle.reach.specs.Reach.{_∈_, named, refersTo, anyOf, reaches, sieve, dependantsIn}
 use Rattle.dependants.specs.Dependants.{dependantsAt, dependants}
 use Rattle.cases.specs.Cases.{at-major, file-E, file-O, table-O}
 use Rattle.demands.specs.Numbers.{ofPool, ofHanded, ofDependants, ofFile}
+use Rattle.demands.proofs.Only.{covers, covered as has-all}
 
 -- each number of a list
 abbrev Each : (ℕ → Type 0) → List ℕ → Type 0
@@ -43,6 +44,10 @@ one-of : (P : ℕ → Type 0) (ns : List ℕ) → Each P ns → (n : ℕ) → n 
 one-of P [] h n m = absurd (List·Memᴰ·not-nil m)
 one-of P (k ∷ ks) h n m = ⊎-elim (λ e. rw e (h .0)) (λ l. one-of P ks (h .1) n l) (List·Memᴰ·cases-cons m)
 
+-- .. and each of another list that has no further ones
+each-of : (P : ℕ → Type 0) (ns : List ℕ) → Each P ns → (ms : List ℕ) → covers ns ms ≡ true → (n : ℕ) → n ∈ ms → P n
+each-of P ns h ms k n m = one-of P ns h n (has-all ns ms k n m)
+
 -- ---- the pool call
 
 abbrev PoolGives : ℕ → Type 0
@@ -52,7 +57,11 @@ abbrev from2 : List ℕ
 from2 = 2 ∷ 3 ∷ 4 ∷ 5 ∷ 6 ∷ 7 ∷ 8 ∷ 9 ∷ 10 ∷ 11 ∷ []
 
 some-pools : Each PoolGives from2
-unfolding oneOf noneOf before same begins formLength covered textForm isText unqualified onto split allOf binary follows walked whole isInit isClinit methodName escape moduleByte moduleForm moduleName stands classLength onMore baseLength typeLength depth fieldDescriptor arrayDescriptor returnDescriptor closing returned methodDescriptor returnsVoid takesNothing within u1 u2 u4 skipped each rowOf secondWidth wide entryAt slotAt entries allEntries headerOf readPool tagOf field bytesOf reference references has ofKind handled handle textAt textOf className classText typed member nameAndType obey checked pool
+unfolding oneOf noneOf before same begins formLength covered textForm isText unqualified onto split allOf binary follows walked whole isInit isClinit
+    methodName escape moduleByte moduleForm moduleName stands classLength onMore baseLength typeLength depth fieldDescriptor arrayDescriptor
+    returnDescriptor closing returned methodDescriptor returnsVoid takesNothing within u1 u2 u4 skipped each rowOf secondWidth wide entryAt slotAt
+    entries allEntries headerOf readPool tagOf field bytesOf reference references has ofKind handled handle textAt textOf className classText typed
+    member nameAndType obey checked pool
 some-pools =
     ([], 1, 0, refl)
     & (0 ∷ 0 ∷ 0 ∷ 0 ∷ [], 1, 0, refl)
@@ -76,7 +85,7 @@ unfolding pool
 long-pool n h = (replicate n 0, 0, 0, rw (← long-read (replicate n 0) 0 (omega (arith, length-replicate {A = ℕ} n 0))) refl)
 
 pub pool-gives : (nr : ℕ) → nr ∈ ofPool → PoolGives nr
-pool-gives = one-of PoolGives ofPool (long-pool 16777217 (omega arith) & some-pools)
+pool-gives = each-of PoolGives (1 ∷ from2) (long-pool 16777217 (omega arith) & some-pools) ofPool refl
 
 -- ---- a handed table, and with it every lookup
 
@@ -87,8 +96,15 @@ long-handed : (n : ℕ) → 16777216 < n → HandedGives 1
 unfolding handed
 long-handed n h = (replicate n 0, [], 0, rw (← long-read (replicate n 0) noLimit (omega (arith, length-replicate {A = ℕ} n 0))) refl)
 
-some-handed : Each HandedGives (2 ∷ 3 ∷ 4 ∷ 6 ∷ 7 ∷ 8 ∷ 9 ∷ 10 ∷ 11 ∷ 12 ∷ [])
-unfolding oneOf noneOf before same begins formLength covered textForm isText unqualified onto split allOf binary follows walked whole isInit isClinit methodName escape moduleByte moduleForm moduleName stands classLength onMore baseLength typeLength depth fieldDescriptor arrayDescriptor returnDescriptor closing returned methodDescriptor returnsVoid takesNothing within u1 u2 u4 skipped each rowOf secondWidth wide entryAt slotAt entries allEntries headerOf readPool tagOf field bytesOf reference references has ofKind handled handle textAt textOf className classText typed member nameAndType obey checked pool agree judged handed
+abbrev but5 : List ℕ
+but5 = 2 ∷ 3 ∷ 4 ∷ 6 ∷ 7 ∷ 8 ∷ 9 ∷ 10 ∷ 11 ∷ 12 ∷ []
+
+some-handed : Each HandedGives but5
+unfolding oneOf noneOf before same begins formLength covered textForm isText unqualified onto split allOf binary follows walked whole isInit isClinit
+    methodName escape moduleByte moduleForm moduleName stands classLength onMore baseLength typeLength depth fieldDescriptor arrayDescriptor
+    returnDescriptor closing returned methodDescriptor returnsVoid takesNothing within u1 u2 u4 skipped each rowOf secondWidth wide entryAt slotAt
+    entries allEntries headerOf readPool tagOf field bytesOf reference references has ofKind handled handle textAt textOf className classText typed
+    member nameAndType obey checked pool agree judged handed
 some-handed =
     ([], [], 0, refl)
     & (0 ∷ 0 ∷ 0 ∷ 0 ∷ [], [], 0, refl)
@@ -103,7 +119,7 @@ some-handed =
     & tt
 
 handed-gives : (nr : ℕ) → nr ∈ ofHanded → HandedGives nr
-handed-gives = one-of HandedGives ofHanded (long-handed 16777217 (omega arith) & some-handed)
+handed-gives = each-of HandedGives (1 ∷ but5) (long-handed 16777217 (omega arith) & some-handed) ofHanded refl
 
 pub lookup-gives : {A : Type 0} (f : Pool → Answer A) (nr : ℕ) → nr ∈ ofHanded → (s : List ℕ) × (table : List ℕ) × (place : ℕ) × (refuse nr place ≡ lookup s table f)
 unfolding lookup
@@ -115,7 +131,11 @@ abbrev DependantsGives : ℕ → Type 0
 DependantsGives nr = (s : List ℕ) × (table : List ℕ) × (n : ℕ) × (room : ℕ) × (place : ℕ) × (refuse nr place ≡ dependants s table n room)
 
 list-too-long : DependantsGives 13
-unfolding oneOf noneOf before same begins formLength covered textForm isText unqualified onto split allOf binary follows walked whole isInit isClinit methodName escape moduleByte moduleForm moduleName stands classLength onMore baseLength typeLength depth fieldDescriptor arrayDescriptor returnDescriptor closing returned methodDescriptor returnsVoid takesNothing within u1 u2 u4 skipped each rowOf secondWidth wide entryAt slotAt entries allEntries headerOf readPool tagOf field bytesOf reference references has ofKind handled handle textAt textOf className classText typed member nameAndType obey checked pool agree judged handed lookup named refersTo anyOf reaches sieve dependantsIn dependantsAt
+unfolding oneOf noneOf before same begins formLength covered textForm isText unqualified onto split allOf binary follows walked whole isInit isClinit
+    methodName escape moduleByte moduleForm moduleName stands classLength onMore baseLength typeLength depth fieldDescriptor arrayDescriptor
+    returnDescriptor closing returned methodDescriptor returnsVoid takesNothing within u1 u2 u4 skipped each rowOf secondWidth wide entryAt slotAt
+    entries allEntries headerOf readPool tagOf field bytesOf reference references has ofKind handled handle textAt textOf className classText typed
+    member nameAndType obey checked pool agree judged handed lookup named refersTo anyOf reaches sieve dependantsIn dependantsAt
 list-too-long = (file-O, table-O, 5, 3, 4, refl)
 
 not-listed : (nr : ℕ) → nr ∈ ofHanded → DependantsGives nr
@@ -142,10 +162,19 @@ making rest = at-major 52 (0 ∷ 5 ∷ 7 ∷ 0 ∷ 2 ∷ 1 ∷ 0 ∷ 1 ∷ 0x41 
 
 -- ... with an InvokeDynamic, and the texts A, ()V and BootstrapMethods
 abbrev calling : List ℕ → List ℕ
-calling rest = at-major 52 (0 ∷ 7 ∷ 7 ∷ 0 ∷ 2 ∷ 1 ∷ 0 ∷ 1 ∷ 0x41 ∷ 18 ∷ 0 ∷ 0 ∷ 0 ∷ 4 ∷ 12 ∷ 0 ∷ 2 ∷ 0 ∷ 5 ∷ 1 ∷ 0 ∷ 3 ∷ 0x28 ∷ 0x29 ∷ 0x56 ∷ 1 ∷ 0 ∷ 16 ∷ 66 ∷ 111 ∷ 111 ∷ 116 ∷ 115 ∷ 116 ∷ 114 ∷ 97 ∷ 112 ∷ 77 ∷ 101 ∷ 116 ∷ 104 ∷ 111 ∷ 100 ∷ 115 ∷ 0 ∷ 0 ∷ 0 ∷ 1 ∷ 0 ∷ 0 ∷ rest)
+calling rest = at-major 52 (0 ∷ 7 ∷ 7 ∷ 0 ∷ 2 ∷ 1 ∷ 0 ∷ 1 ∷ 0x41 ∷ 18 ∷ 0 ∷ 0 ∷ 0 ∷ 4 ∷ 12 ∷ 0 ∷ 2 ∷ 0 ∷ 5 ∷ 1 ∷ 0 ∷ 3 ∷ 0x28 ∷ 0x29 ∷ 0x56 ∷ 1 ∷ 0 ∷ 16 ∷ bootstrapMethods ++ 0 ∷ 0 ∷ 0 ∷ 1 ∷ 0 ∷ 0 ∷ rest)
 
-some-files : Each FileGives (13 ∷ 14 ∷ 15 ∷ 16 ∷ 17 ∷ 18 ∷ [])
-unfolding oneOf noneOf before same begins formLength covered textForm isText unqualified onto split allOf binary follows walked whole isInit isClinit methodName escape moduleByte moduleForm moduleName stands classLength onMore baseLength typeLength depth fieldDescriptor arrayDescriptor returnDescriptor closing returned methodDescriptor returnsVoid takesNothing within u1 u2 u4 skipped each rowOf secondWidth wide entryAt slotAt entries allEntries headerOf readPool tagOf field bytesOf reference references has ofKind handled handle textAt textOf className classText typed member nameAndType obey checked pool isBootstrapMethods records utf8At attributeAt ruled recordAt isBootstrap bodyU2 indexAt steps methodAt bootstrapBody ownRule bootstraps belowEach dynamic bootstrapIndex bootstrapIndices masked goodName goodType goodText shape goodShape alike twice textIn partsAt memberAt classAt superAt headAt interfaceAt interfacesAt wholeAt sortAt bothAt endAt ownAt tablesAt marked listedAt restAt classFile
+abbrev from13 : List ℕ
+from13 = 13 ∷ 14 ∷ 15 ∷ 16 ∷ 17 ∷ 18 ∷ []
+
+some-files : Each FileGives from13
+unfolding oneOf noneOf before same begins formLength covered textForm isText unqualified onto split allOf binary follows walked whole isInit isClinit
+    methodName escape moduleByte moduleForm moduleName stands classLength onMore baseLength typeLength depth fieldDescriptor arrayDescriptor
+    returnDescriptor closing returned methodDescriptor returnsVoid takesNothing within u1 u2 u4 skipped each rowOf secondWidth wide entryAt slotAt
+    entries allEntries headerOf readPool tagOf field bytesOf reference references has ofKind handled handle textAt textOf className classText typed
+    member nameAndType obey checked pool isBootstrapMethods records utf8At attributeAt ruled recordAt isBootstrap bodyU2 indexAt steps methodAt
+    bootstrapBody ownRule bootstraps belowEach dynamic bootstrapIndex bootstrapIndices masked goodName goodType goodText shape goodShape alike twice
+    textIn partsAt memberAt classAt superAt headAt interfaceAt interfacesAt wholeAt sortAt endAt ownAt tablesAt marked frontAt classFile
 some-files =
     (plain (0 ∷ 1 ∷ 0 ∷ 1 ∷ []), with-rooms 4 0 0 0, 29, refl)
     & (plain (0 ∷ 0 ∷ 0 ∷ 2 ∷ 0 ∷ 0 ∷ 0 ∷ 2 ∷ 0 ∷ 3 ∷ 0 ∷ 0 ∷ 0 ∷ 0 ∷ 0 ∷ 2 ∷ 0 ∷ 3 ∷ 0 ∷ 0 ∷ []), with-rooms 4 0 2 0, 39, refl)
@@ -156,8 +185,8 @@ some-files =
     & tt
 
 not-pool : (nr : ℕ) → nr ∈ ofPool → FileGives nr
-unfolding classFile
+unfolding classFile frontAt
 not-pool nr m = let h = pool-gives nr m in (h .0, with-rooms (h .1) 0 0 0, h .2, rw (← h .3) refl)
 
 pub file-gives : (nr : ℕ) → nr ∈ ofFile → FileGives nr
-file-gives nr m = ⊎-elim (λ k. not-pool nr k) (λ k. one-of FileGives (13 ∷ 14 ∷ 15 ∷ 16 ∷ 17 ∷ 18 ∷ []) some-files nr k) (List·Memᴰ·append-cases ofPool m)
+file-gives nr m = ⊎-elim (λ k. not-pool nr k) (λ k. one-of FileGives from13 some-files nr k) (List·Memᴰ·append-cases ofPool (has-all (ofPool ++ from13) ofFile refl nr m))

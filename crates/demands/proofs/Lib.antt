@@ -2,6 +2,7 @@ pub mod Only
 pub mod Numbered
 pub mod NumberedLookups
 pub mod NumberedClass
+pub mod Sized
 pub mod Places
 pub mod PlacesClass
 pub mod Kept
@@ -11,6 +12,13 @@ pub mod Roomy
 pub mod OnBytes
 pub mod Ordered
 pub mod Given
+pub mod TiedBytes
+pub mod TiedPool
+pub mod TiedLookups
+pub mod TiedViews
+pub mod TiedClass
+pub mod TiedC
+pub mod TiedNative
 pub mod Demand1
 pub mod Demand2
 pub mod Demand3

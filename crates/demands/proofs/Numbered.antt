@@ -6,8 +6,8 @@ use Prim.Native.Nat.{ℕ, zero, suc, _+_, _-_, _<_}
 use native.Mathlib.Omega.{arith}
 use lib.ListN.{length}
 use lib.Dec.{leb, ltb, eqb}
-use Rattle.reads.specs.Answer.{Check, refuse, require, each}
-use Rattle.reads.specs.Bytes.{within, u1, u2, u4, u8, skipped}
+use Rattle.reads.specs.Answer.{Check, require, each}
+use Rattle.reads.specs.Bytes.{within, u1, u2, u4, skipped}
 use Rattle.text.specs.Text.{isText, binary}
 use Rattle.descriptors.specs.Descriptors.{stands as begins, arrayDescriptor}
 use Rattle.pool.specs.Kinds as kind
@@ -18,7 +18,7 @@ use Rattle.slot.specs.Slots.{tagOf, field, bytesOf, inRange, ofKind as kindAt, 
 use Rattle.checks.specs.Checks.{reference, references, handle, member, nameAndType, Rule, rules, follow, obey, checked, pool}
 use Rattle.reach.specs.Reach.{_∈_}
 use Rattle.demands.specs.Calls.{Refuses, Only, OnlyAt}
-use Rattle.demands.specs.Numbers.{ofRead, ofHeader, ofSlot, ofEntries, ofKind, ofText, ofName, ofTyped, ofRange, ofChecks, ofPool}
+use Rattle.demands.specs.Numbers.{ofRead, ofHeader, ofEntry, ofSlot, ofEntries, ofUnbounded, ofKind, ofText, ofSpelling, ofName, ofTyped, ofRange, ofReferences, ofChecks, ofPool}
 use Rattle.demands.proofs.Only.{among, covers, either, done, then, need, need-at, need-here, pick, all-in, weaken, wide, wide-here, only, less}
 
 -- ---- reads, each at the byte where it begins
@@ -40,10 +40,6 @@ module _ (s : List ℕ) (at : ℕ) where
   unfolding u4
   u4-at = then (within s at 4) _ (within-at 4) (λ _ _. done _)
 
-  pub u8-at : OnlyAt ofRead at (u8 s at)
-  unfolding u8
-  u8-at = then (within s at 8) _ (within-at 8) (λ _ _. done _)
-
   pub skipped-at : (n : ℕ) → OnlyAt ofRead at (skipped s at n)
   unfolding skipped
   skipped-at n = then (within s at n) _ (within-at n) (λ _ _. done _)
@@ -51,13 +47,13 @@ module _ (s : List ℕ) (at : ℕ) where
 -- ---- the entries
 
 module _ (s : List ℕ) where
-  second-only : (at t width : ℕ) → Only (2 ∷ 4 ∷ []) (secondWidth s at t width)
+  second-only : (at t width : ℕ) → Only ofEntry (secondWidth s at t width)
   unfolding secondWidth
   second-only at t width =
       pick (eqb t kind.Utf8) _ _ (wide (only (u2-at s at)) refl)
       (pick (eqb t kind.MethodHandle) _ _ (then (u1 s at) _ (wide (only (u1-at s at)) refl) (λ k _. then (require (leb 1 k && leb k 9) 4 at) _ (need (leb 1 k && leb k 9) 4 at refl) (λ _ _. done _))) (done _))
 
-  entry-only : (major at : ℕ) → Only (2 ∷ 4 ∷ []) (entryAt s major at)
+  entry-only : (major at : ℕ) → Only ofEntry (entryAt s major at)
   unfolding entryAt
   entry-only major at =
       then (u1 s at) _ (wide (only (u1-at s at)) refl) (λ t _.
@@ -100,7 +96,7 @@ module _ (s : List ℕ) where
       then (allEntries s (h .major) (h .count) room) _ (wide (entries-all (h .major) room (h .count)) refl) (λ _ _. done _))
 
   -- with 65,536 cells never 5
-  pub unbounded-only : Bytes s → Only (1 ∷ 2 ∷ 3 ∷ 4 ∷ []) (readPool s 65536)
+  pub unbounded-only : Bytes s → Only ofUnbounded (readPool s 65536)
   unbounded-only b = less 5 (read-only 65536) (enough-to-read s b) refl
 
 -- ---- the pool's checks, each at the place that it is given
@@ -138,7 +134,7 @@ module _ (p : Pool) (place : ℕ) where
   unfolding member
   member-at good = then (kindAt p place _ _) _ (wide-here (kind-at _ _) refl) (λ _ _. typed-at good _)
 
-  name-and-type-at : OnlyAt (8 ∷ 9 ∷ 10 ∷ []) place (nameAndType p place)
+  name-and-type-at : OnlyAt (ofText ++ ofSpelling) place (nameAndType p place)
   unfolding nameAndType
   name-and-type-at = then (textOf _ 10 p place _) _ (text-of-at _ 10 _ refl refl) (λ _ _. wide-here (kind-at _ _) refl)
 
@@ -146,14 +142,14 @@ module _ (p : Pool) (place : ℕ) where
   unfolding handle
   handle-at = kind-at _ _
 
-  reference-at : (k : ℕ) → OnlyAt (6 ∷ 7 ∷ []) place (reference p place k)
+  reference-at : (k : ℕ) → OnlyAt ofReferences place (reference p place k)
   unfolding reference
   reference-at k =
       pick (eqb k 0) _ _ (done _)
       (then (require (not (eqb (field p place k) place)) 6 place) _ (need-here (not (eqb (field p place k) place)) 6 place refl)
       (λ _ _. need-here (ltb (field p place k) (slots p)) 7 place refl))
 
-  references-at : OnlyAt (6 ∷ 7 ∷ []) place (references p place)
+  references-at : OnlyAt ofReferences place (references p place)
   unfolding references
   references-at = then (reference p place _) _ (reference-at _) (λ _ _. reference-at _)
 
@@ -170,7 +166,7 @@ follow-at : {ns : List ℕ} (rs : List Rule) (t : ℕ) (p : Pool) (n : ℕ) → 
 follow-at [] t p n h = done tt
 follow-at (r ∷ rs) t p n h = pick (eqb t (r .0)) _ _ (h .0) (follow-at rs t p n (h .1))
 
-obey-at : (p : Pool) (n : ℕ) → OnlyAt (8 ∷ 9 ∷ 10 ∷ 11 ∷ []) n (obey p n)
+obey-at : (p : Pool) (n : ℕ) → OnlyAt ofName n (obey p n)
 unfolding obey
 obey-at p n =
     follow-at rules (tagOf p n) p n

@@ -1,36 +1,34 @@
 -- Which numbers the file after the pool can be refused with. Assumes nothing.
 use mathlib.Core.Path.{_≡_, refl}
 use mathlib.Core.Bool.{Bool, true, false, not}
-use mathlib.Core.List.{List, [], _∷_}
+use mathlib.Core.List.{List, _++_, _∷_}
 use Prim.Native.Nat.{ℕ, _+_}
 use lib.ListN.{length}
 use lib.Dec.{leb, ltb, eqb}
-use Rattle.reads.specs.Answer.{Answer, _>>=_, require}
+use Rattle.reads.specs.Answer.{require}
 use Rattle.reads.specs.Bytes.{u2, u4, skipped}
 use Rattle.text.specs.Text.{binary}
 use Rattle.pool.specs.Pool.{Pool, slots}
-use Rattle.slot.specs.Slots.{tagOf, field, bytesOf, inRange, ofKind}
+use Rattle.slot.specs.Slots.{tagOf, field, bytesOf, inRange, ofKind, utf8At}
 use Rattle.checks.specs.Checks.{pool}
-use Rattle.bootstrap.specs.Bootstrap.{isBootstrap, handles, loadable, bodyU2, indexAt, steps, methodAt, bootstrapBody, ownRule}
+use Rattle.bootstrap.specs.Bootstrap.{isBootstrap, handles, loadable, bodyU2, indexAt, steps, methodAt, bootstrapBody, ownBody, ownRule}
 use Rattle.bootstrap.specs.Indices.{bootstraps, belowEach, dynamic, bootstrapIndex, bootstrapIndices}
-use Rattle.attributes.specs.Records.{column}
-use Rattle.attributes.specs.Attributes.{utf8At, attributeAt, ruled, recordAt, bodyEnd, framed, attributes}
+use Rattle.reads.specs.Records.{column}
+use Rattle.attributes.specs.Attributes.{attributeAt, ruled, recordAt, bodyEnd, framed}
 use Rattle.member.specs.declared.Sort.{Sort}
 use Rattle.member.specs.Member.{goodText, goodShape, twice, textIn, partsAt, memberAt}
-use Rattle.header.specs.Header.{classAt, superAt, headAt, interfaceAt, past, interfacesAt}
-use Rattle.sorts.specs.Sorts.{countIn, sortIn}
-use Rattle.members.specs.Members.{Reached, wholeAt, reach, sortAt, aField, aMethod, bothAt, members}
-use Rattle.tables.specs.Rest.{endAt, ownAt, tablesAt, tables}
-use Rattle.classfile.specs.Class.{Rooms, marked, listedAt, restAt, classFile}
+use Rattle.class_head.specs.Header.{classAt, superAt, headAt, interfaceAt, past, interfacesAt}
+use Rattle.class.specs.Members.{Reached, wholeAt, reach, sortAt, aField, aMethod}
+use Rattle.class.specs.Class.{Rooms, marked, frontAt, endAt, ownAt, tablesAt, classFile}
 use Rattle.demands.specs.Calls.{Only, OnlyAt}
-use Rattle.demands.specs.Numbers.{ofBody, ofIndices, ofIndex, ofFrame, ofMember, ofClass, ofHead, ofInterfaces, ofMembers, ofTables, ofFile}
+use Rattle.demands.specs.Numbers.{ofPool, ofEnd, ofBody, ofIndices, ofIndex, ofAttribute, ofRecord, ofOwn, ofParts, ofMember, ofMembers, ofClass, ofHead, ofInterfaces, ofFile}
 use Rattle.demands.proofs.Only.{among, covers, done, then, need, pick, all, stepped, many, need-here, wide, wide-here, only}
 use Rattle.demands.proofs.Numbered.{u2-at, u4-at, skipped-at, range-at, kind-at, text-at, pool-only}
 
 -- ---- BootstrapMethods
 
 module _ (p : Pool) (at end : ℕ) where
-  pub body-u2-at : (i : ℕ) → OnlyAt (18 ∷ []) at (bodyU2 p at end i)
+  pub body-u2-at : (i : ℕ) → OnlyAt ofEnd at (bodyU2 p at end i)
   unfolding bodyU2
   body-u2-at i = then (require (leb (i + 2) end) 18 at) _ (need-here (leb (i + 2) end) 18 at refl) (λ _ _. done _)
 
@@ -55,9 +53,12 @@ module _ (p : Pool) (at end : ℕ) where
       then (steps (methodAt p at end) n (start + 2)) _ (stepped (methodAt p at end) n (start + 2) method-only) (λ next _.
       need (eqb next end) 18 at refl))
 
+pub own-body-only : (p : Pool) (at name start end : ℕ) → Only ofBody (ownBody p at name start end)
+own-body-only p at name start end = pick (isBootstrap p name) _ _ (body-only p at end start) (done _)
+
 pub own-only : (p : Pool) (at name start size : ℕ) → Only ofBody (ownRule p at name start size)
 unfolding ownRule
-own-only p at name start size = pick (isBootstrap p name) _ _ (body-only p at (start + size) start) (done _)
+own-only p at name start size = own-body-only p at name start (start + size)
 
 pub indices-only : (p : Pool) (names bodies : List ℕ) → Only ofIndices (bootstrapIndices p names bodies)
 unfolding bootstrapIndices bootstrapIndex
@@ -72,7 +73,7 @@ pub index-of-at : (p : Pool) (place m : ℕ) → OnlyAt ofIndex place (utf8At p 
 unfolding utf8At
 index-of-at p place m = then (inRange p place m) _ (wide-here (range-at p place m) refl) (λ _ _. wide-here (text-at p place m) refl)
 
-attribute-only : (p : Pool) (at : ℕ) → Only (2 ∷ 7 ∷ 8 ∷ 9 ∷ []) (attributeAt p at)
+attribute-only : (p : Pool) (at : ℕ) → Only ofAttribute (attributeAt p at)
 unfolding attributeAt
 attribute-only p at =
     then (u2 (p .file) at) _ (wide (only (u2-at (p .file) at)) refl) (λ m _.
@@ -81,32 +82,24 @@ attribute-only p at =
     then (skipped (p .file) (at + 6) size) _ (wide (only (skipped-at (p .file) (at + 6) size)) refl) (λ _ _. done _))))
 
 -- a member's attributes are not looked into
-record-only : (p : Pool) (room n at : ℕ) → Only (2 ∷ 7 ∷ 8 ∷ 9 ∷ 13 ∷ []) (recordAt false p room n at)
+record-only : (p : Pool) (room n at : ℕ) → Only ofRecord (recordAt false p room n at)
 unfolding recordAt ruled
 record-only p room n at =
     then (attributeAt p at) _ (wide (attribute-only p at) refl) (λ a _.
     then (require (ltb n room) 13 at) _ (need (ltb n room) 13 at refl) (λ _ _. done _))
 
-own-record-only : (own : Bool) (p : Pool) (room n at : ℕ) → Only (2 ∷ 7 ∷ 8 ∷ 9 ∷ 13 ∷ 18 ∷ []) (recordAt own p room n at)
+pub own-record-only : (own : Bool) (p : Pool) (room n at : ℕ) → Only ofOwn (recordAt own p room n at)
 unfolding recordAt ruled
 own-record-only own p room n at =
     then (attributeAt p at) _ (wide (attribute-only p at) refl) (λ a _.
     then (ruled own p at a) _ (pick own _ _ (wide (own-only p at (a .name) (a .start) (a .size)) refl) (done _)) (λ _ _.
     then (require (ltb n room) 13 at) _ (need (ltb n room) 13 at refl) (λ _ _. done _)))
 
-framed-only : (p : Pool) (room k n at : ℕ) → Only (2 ∷ 7 ∷ 8 ∷ 9 ∷ 13 ∷ []) (framed false p room k n at)
+framed-only : (p : Pool) (room k n at : ℕ) → Only ofRecord (framed false p room k n at)
 framed-only p room k n at = many (recordAt false p room) bodyEnd k n at (record-only p room)
 
-own-framed-only : (own : Bool) (p : Pool) (room k n at : ℕ) → Only (2 ∷ 7 ∷ 8 ∷ 9 ∷ 13 ∷ 18 ∷ []) (framed own p room k n at)
-own-framed-only own p room k n at = many (recordAt own p room) bodyEnd k n at (own-record-only own p room)
-
--- a file that is not too long
-short : {A : Type 0} {ns : List ℕ} (p : Pool) (x : Answer A) → among 1 ns ≡ true → Only ns x → Only ns (require (leb (length (p .file)) 16777216) 1 0 >>= λ _. x)
-short p x h g = then (require (leb (length (p .file)) 16777216) 1 0) _ (need (leb (length (p .file)) 16777216) 1 0 h) (λ _ _. g)
-
-pub frame-only : (own : Bool) (p : Pool) (room k n at : ℕ) → Only ofFrame (attributes own p room k n at)
-unfolding attributes
-frame-only own p room k n at = short p _ refl (wide (own-framed-only own p room k n at) refl)
+own-framed-only : (p : Pool) (room k n at : ℕ) → Only ofOwn (framed true p room k n at)
+own-framed-only p room k n at = many (recordAt true p room) bodyEnd k n at (own-record-only true p room)
 
 -- ---- members
 
@@ -115,7 +108,7 @@ module _ (k : Sort) (p : Pool) where
   unfolding textIn
   text-in-at nr place m h g = then (utf8At p place m) _ (wide-here (index-of-at p place m) h) (λ _ _. need-here (goodText k nr (bytesOf p m)) nr place g)
 
-  parts-only : (at name type : ℕ) → Only (7 ∷ 8 ∷ 9 ∷ 10 ∷ 11 ∷ 15 ∷ []) (partsAt k p at name type)
+  parts-only : (at name type : ℕ) → Only ofParts (partsAt k p at name type)
   unfolding partsAt
   parts-only at name type =
       then (textIn k 10 p (at + 2) name) _ (only (text-in-at 10 (at + 2) name refl refl)) (λ _ _.
@@ -133,35 +126,15 @@ module _ (k : Sort) (p : Pool) where
       then (require (ltb n room) 13 at) _ (need (ltb n room) 13 at refl) (λ _ _.
       then (u2 (p .file) (at + 6)) _ (wide (only (u2-at (p .file) (at + 6))) refl) (λ _ _. done _)))))))
 
-  whole-only : (room limit n : ℕ) (s : Reached) → Only ofMember (wholeAt k p room limit n s)
+  whole-only : (room limit n : ℕ) (s : Reached) → Only ofMembers (wholeAt k p room limit n s)
   unfolding wholeAt
   whole-only room limit n s =
-      then (memberAt k p room n (s .at) (s .names) (s .types)) _ (member-only room n (s .at) (s .names) (s .types)) (λ m _.
+      then (memberAt k p room n (s .at) (s .names) (s .types)) _ (wide (member-only room n (s .at) (s .names) (s .types)) refl) (λ m _.
       then (framed false p limit (m .count) (s .used) (s .at + 8)) _ (wide (framed-only p limit (m .count) (s .used) (s .at + 8)) refl) (λ _ _. done _))
 
-  sort-only : (room limit n at used : ℕ) → Only ofMember (sortAt k p room limit n at used)
+  sort-only : (room limit n at used : ℕ) → Only ofMembers (sortAt k p room limit n at used)
   unfolding sortAt
   sort-only room limit n at used = then (u2 (p .file) at) _ (wide (only (u2-at (p .file) at)) refl) (λ c _. many (wholeAt k p room limit) reach c n _ (whole-only room limit))
-
-  pub sort-in-only : (room limit n at used : ℕ) → Only ofMembers (sortIn k p room limit n at used)
-  unfolding sortIn countIn
-  sort-in-only room limit n at used =
-      then (countIn (p .file) room n at used) _
-      (then (require (leb (length (p .file)) 16777216) 1 0) _ (need (leb (length (p .file)) 16777216) 1 0 refl) (λ _ _.
-      then (require (leb n room) 1 0) _ (need (leb n room) 1 0 refl) (λ _ _.
-      then (require (leb used at) 1 0) _ (need (leb used at) 1 0 refl) (λ _ _. wide (only (u2-at (p .file) at)) refl))))
-      (λ c _. many (wholeAt k p room limit) reach c n _ (λ i r. wide (whole-only room limit i r) refl))
-
-module _ (interface : Bool) (p : Pool) (room limit : ℕ) where
-  both-only : (at : ℕ) → Only ofMember (bothAt interface p room limit at)
-  unfolding bothAt
-  both-only at =
-      then (sortAt aField p room limit 0 at 0) _ (sort-only aField p room limit 0 at 0) (λ fs _.
-      then (sortAt (aMethod interface) p room limit (length (fs .list)) (fs .end .at) (fs .end .used)) _ (sort-only (aMethod interface) p room limit (length (fs .list)) (fs .end .at) (fs .end .used)) (λ _ _. done _))
-
-  pub members-only : (at : ℕ) → Only ofMembers (members interface p room limit at)
-  unfolding members
-  members-only at = short p _ refl (wide (both-only at) refl)
 
 -- ---- the header and the interfaces
 
@@ -200,42 +173,36 @@ module _ (p : Pool) where
 -- ---- what comes after them, and the whole file
 
 module _ (p : Pool) where
-  end-only : (end : ℕ) (names bodies : List ℕ) → Only (16 ∷ 17 ∷ 18 ∷ []) (endAt p end names bodies)
+  end-only : (end : ℕ) (names bodies : List ℕ) → Only (ofEnd ++ ofIndices) (endAt p end names bodies)
   unfolding endAt
   end-only end names bodies = then (require (eqb end (length (p .file))) 18 end) _ (need (eqb end (length (p .file))) 18 end refl) (λ _ _. wide (indices-only p names bodies) refl)
 
-  own-at-only : (limit used at : ℕ) → Only (2 ∷ 7 ∷ 8 ∷ 9 ∷ 13 ∷ 16 ∷ 17 ∷ 18 ∷ []) (ownAt p limit used at)
+  own-at-only : (limit used at : ℕ) → Only (ofOwn ++ ofIndices) (ownAt p limit used at)
   unfolding ownAt
   own-at-only limit used at =
       then (u2 (p .file) at) _ (wide (only (u2-at (p .file) at)) refl) (λ k _.
-      then (framed true p limit k used (at + 2)) _ (wide (own-framed-only true p limit k used (at + 2)) refl) (λ own _.
+      then (framed true p limit k used (at + 2)) _ (wide (own-framed-only p limit k used (at + 2)) refl) (λ own _.
       then (endAt p (own .end) (column (λ a. a .name) own) (column (λ a. a .start) own)) _ (wide (end-only (own .end) (column (λ a. a .name) own) (column (λ a. a .start) own)) refl) (λ _ _. done _)))
 
-  module _ (interface : Bool) (room limit at : ℕ) where
-    tables-at-only : Only (2 ∷ 7 ∷ 8 ∷ 9 ∷ 10 ∷ 11 ∷ 13 ∷ 14 ∷ 15 ∷ 16 ∷ 17 ∷ 18 ∷ []) (tablesAt interface p room limit at)
-    unfolding tablesAt
-    tables-at-only =
-        then (bothAt interface p room limit at) _ (wide (both-only interface p room limit at) refl) (λ b _.
-        then (ownAt p limit (b .used) (b .next)) _ (wide (own-at-only limit (b .used) (b .next)) refl) (λ _ _. done _))
+  tables-only : (interface : Bool) (room limit at : ℕ) → Only (ofMembers ++ ofOwn ++ ofIndices) (tablesAt interface p room limit at)
+  unfolding tablesAt
+  tables-only interface room limit at =
+      then (sortAt aField p room limit 0 at 0) _ (wide (sort-only aField p room limit 0 at 0) refl) (λ fs _.
+      let m = aMethod interface in
+      then (sortAt m p room limit (length (fs .list)) (fs .end .at) (fs .end .used)) _ (wide (sort-only m p room limit (length (fs .list)) (fs .end .at) (fs .end .used)) refl) (λ ms _.
+      then (ownAt p limit (ms .end .used) (ms .end .at)) _ (wide (own-at-only limit (ms .end .used) (ms .end .at)) refl) (λ _ _. done _)))
 
-    pub tables-only : Only ofTables (tables interface p room limit at)
-    unfolding tables
-    tables-only = short p _ refl (wide tables-at-only refl)
+module _ (s : List ℕ) where
+  front-only : (room len : ℕ) → Only (ofPool ++ ofInterfaces) (frontAt s room len)
+  unfolding frontAt
+  front-only room len =
+      then (pool s room) _ (wide (pool-only s room) refl) (λ w _.
+      then (headAt (w .pool) (w .next)) _ (wide (head-only (w .pool) (w .next)) refl) (λ _ _.
+      then (interfacesAt (w .pool) len (w .next + 6)) _ (wide (interfaces-only (w .pool) len (w .next + 6)) refl) (λ _ _. done _)))
 
-  listed-only : (interface : Bool) (rooms : Rooms) (at : ℕ) → Only ofTables (listedAt interface p rooms at)
-  unfolding listedAt
-  listed-only interface rooms at =
-      then (interfacesAt p (rooms .interfaces) at) _ (wide (interfaces-only p (rooms .interfaces) at) refl) (λ is _.
-      then (tablesAt interface p (rooms .members) (rooms .attributes) (is .end)) _ (wide (tables-at-only interface (rooms .members) (rooms .attributes) (is .end)) refl) (λ _ _. done _))
-
-  rest-only : (rooms : Rooms) (at : ℕ) → Only ofTables (restAt p rooms at)
-  unfolding restAt
-  rest-only rooms at =
-      then (headAt p at) _ (wide (head-only p at) refl) (λ h _.
-      then (listedAt (marked (h .flags)) p rooms (at + 6)) _ (listed-only (marked (h .flags)) rooms (at + 6)) (λ _ _. done _))
-
-pub file-only : (s : List ℕ) (rooms : Rooms) → Only ofFile (classFile s rooms)
-unfolding classFile
-file-only s rooms =
-    then (pool s (rooms .cells)) _ (wide (pool-only s (rooms .cells)) refl) (λ w _.
-    then (restAt (w .pool) rooms (w .next)) _ (wide (rest-only (w .pool) rooms (w .next)) refl) (λ _ _. done _))
+  pub file-only : (rooms : Rooms) → Only ofFile (classFile s rooms)
+  unfolding classFile
+  file-only rooms =
+      then (frontAt s (rooms .cells) (rooms .interfaces)) _ (wide (front-only (rooms .cells) (rooms .interfaces)) refl) (λ f _.
+      let i = marked (f .head .flags) in
+      then (tablesAt i (f .pool .pool) (rooms .members) (rooms .attributes) (f .next)) _ (wide (tables-only (f .pool .pool) i (rooms .members) (rooms .attributes) (f .next)) refl) (λ _ _. done _))

@@ -1,7 +1,7 @@
--- Which numbers a handed table, a lookup and the dependants can be refused with: never 5, in a file of bytes. Assumes nothing.
-use mathlib.Core.Path.{_≡_, refl}
+-- Which numbers a handed table, a lookup and the dependants can be refused with: never 5, in a file of bytes; and where a lookup's own refusals stand. Assumes nothing.
+use mathlib.Core.Path.{_≡_, refl, _∙_}
 use mathlib.Core.Bool.{Bool, true, false}
-use mathlib.Core.List.{List, [], _∷_, List·Memᴰ·head, List·Memᴰ·tail}
+use mathlib.Core.List.{List, _∷_, _++_, List·Memᴰ·head, List·Memᴰ·tail}
 use Prim.Native.Nat.{ℕ}
 use lib.ListN.{length, getD}
 use lib.Dec.{leb, eqb}
@@ -12,23 +12,25 @@ use Rattle.pool.proofs.Room.{Bytes}
 use Rattle.slot.specs.Slots.{field, inRange, textAt}
 use Rattle.handed.specs.Handed.{agree, judged, noLimit, handed, lookup, asked}
 use Rattle.handed.proofs.Handed.{sameAt}
+use Rattle.handed.proofs.Own.{on-own}
 use Rattle.values.specs.Lookups as value
 use Rattle.lookups.specs.Lookups.{nameSlot, namedAt, memberAt, handleAt, indexedAt}
 use Rattle.reach.specs.Reach.{_∈_, dependantsIn}
 use Rattle.dependants.specs.Dependants.{dependantsAt, dependants}
-use Rattle.afresh.specs.Afresh.{afresh}
-use Rattle.replies.specs.declared.Question.{Question}
-use Rattle.replies.specs.declared.Question.the-variants.{ClassName, ModuleName, PackageName, MethodType, NameAndType, MemberReference, MethodHandle, Dynamic, InvokeDynamic, Literal, Text, Part}
-use Rattle.replies.specs.declared.Reply.{Reply}
-use Rattle.replies.specs.Replies.{numbers, slotValues, namedValues, memberValues, heldValues, indexedValues, literalValues, textValues, spanValues, replyAt, onPool}
-use Rattle.demands.specs.Calls.{Only, OnlyAt}
-use Rattle.demands.specs.Numbers.{ofAfresh, ofAsked, ofHanded, ofIndex, ofDependants}
-use Rattle.demands.proofs.Only.{covers, covered, done, then, need, all, wide, wide-here, only, part}
+use Rattle.byte_tables.specs.Afresh.{afresh}
+use Rattle.questions.specs.declared.Question.{Question}
+use Rattle.questions.specs.declared.Question.the-variants.{ClassName, ModuleName, PackageName, MethodType, NameAndType, MemberReference, MethodHandle, Dynamic, InvokeDynamic, Literal, Text, Part}
+use Rattle.questions.specs.declared.Reply.{Reply}
+use Rattle.questions.specs.Replies.{numbers, slotValues, namedValues, memberValues, heldValues, indexedValues, literalValues, textValues, spanValues, replyAt, onPool}
+use Rattle.demands.specs.Calls.{Refuses, Only, OnlyAt}
+use Rattle.demands.specs.Numbers.{ofTwelve, ofAfresh, ofRange, ofAsked, ofHanded, ofIndex, ofRoom, ofDependants}
+use Rattle.demands.specs.Places.{OfLookup}
+use Rattle.demands.proofs.Only.{covers, covered, done, then, need, all, both, wide, wide-here, only, part}
 use Rattle.demands.proofs.Numbered.{read-only, unbounded-only, range-at, kind-at, text-at, checked-only}
 
 -- ---- a handed table
 
-agree-only : (cells table : List ℕ) → Only (12 ∷ []) (agree cells table)
+agree-only : (cells table : List ℕ) → Only ofTwelve (agree cells table)
 unfolding agree
 agree-only cells table =
     then (each (length table) 0 (sameAt cells table)) _ (all (length table) 0 (sameAt cells table) (λ i. need (eqb (getD table i 0) (getD cells i 0)) 12 i refl))
@@ -74,10 +76,6 @@ module _ (n : ℕ) (p : Pool) where
   unfolding value.spanAt
   span-asked = asking p _ n _ refl (done _)
 
-  pub bytes-asked : OnlyAt ofAsked n (value.bytesAt n p)
-  unfolding value.bytesAt
-  bytes-asked = asking p _ n _ refl (done _)
-
   pub name-asked : (allowed : ℕ) → OnlyAt ofAsked n (nameSlot allowed n p)
   unfolding nameSlot
   name-asked allowed = asking p allowed n _ refl (done _)
@@ -98,7 +96,7 @@ module _ (n : ℕ) (p : Pool) where
   unfolding indexedAt
   indexed-asked allowed = asking p allowed n _ refl (done _)
 
-  listed-asked : (room : ℕ) → Only (7 ∷ 13 ∷ []) (dependantsAt n room p)
+  listed-asked : (room : ℕ) → Only (ofRange ++ ofRoom) (dependantsAt n room p)
   unfolding dependantsAt
   listed-asked room =
       then (inRange p n n) _ (wide (only (range-at p n n)) refl) (λ _ _.
@@ -107,35 +105,36 @@ module _ (n : ℕ) (p : Pool) where
 -- ---- the lookups
 
 module _ (s : List ℕ) (b : Bytes s) (table : List ℕ) (n : ℕ) where
-  looked : {A : Type 0} {ns : List ℕ} (f : ℕ → Pool → Answer A) → ((n : ℕ) (p : Pool) → OnlyAt ns n (f n p)) → covers ofHanded ns ≡ true → Only ofHanded (lookup s table (f n))
-  looked f g h = lookup-only s b table (f n) refl (λ p. wide (only (g n p)) h)
+  abbrev Looked : {A : Type 0} → (Pool → Answer A) → Type 0
+  Looked f = Refuses (OfLookup s table n) (lookup s table f)
 
-  pub literal-only : Only ofHanded (lookup s table (value.literalAt n))
-  literal-only = looked value.literalAt literal-asked refl
+  -- on an accepted table the lookup's own refusal stands at the slot asked for
+  looked : {A : Type 0} {ns : List ℕ} (f : ℕ → Pool → Answer A) → ((n : ℕ) (p : Pool) → OnlyAt ns n (f n p)) → covers ofHanded ns ≡ true → Looked (f n)
+  looked f g h = both (lookup-only s b table (f n) refl (λ p. wide (only (g n p)) h)) (record { with = λ nr place e w o. g n (w .pool) .with nr place (e ∙ on-own s table w o (f n)) .1 })
 
-  pub text-only : Only ofHanded (lookup s table (value.textAt n))
-  text-only = looked value.textAt text-asked refl
+  pub literal-looked : Looked (value.literalAt n)
+  literal-looked = looked value.literalAt literal-asked refl
 
-  pub span-only : Only ofHanded (lookup s table (value.spanAt n))
-  span-only = looked value.spanAt span-asked refl
+  pub text-looked : Looked (value.textAt n)
+  text-looked = looked value.textAt text-asked refl
 
-  pub bytes-only : Only ofHanded (lookup s table (value.bytesAt n))
-  bytes-only = looked value.bytesAt bytes-asked refl
+  pub span-looked : Looked (value.spanAt n)
+  span-looked = looked value.spanAt span-asked refl
 
-  pub name-only : (allowed : ℕ) → Only ofHanded (lookup s table (nameSlot allowed n))
-  name-only allowed = looked (nameSlot allowed) (λ m p. name-asked m p allowed) refl
+  pub name-looked : (allowed : ℕ) → Looked (nameSlot allowed n)
+  name-looked allowed = looked (nameSlot allowed) (λ m p. name-asked m p allowed) refl
 
-  pub named-only : Only ofHanded (lookup s table (namedAt n))
-  named-only = looked namedAt named-asked refl
+  pub named-looked : Looked (namedAt n)
+  named-looked = looked namedAt named-asked refl
 
-  pub member-only : Only ofHanded (lookup s table (memberAt n))
-  member-only = looked memberAt member-asked refl
+  pub member-looked : Looked (memberAt n)
+  member-looked = looked memberAt member-asked refl
 
-  pub handle-only : Only ofHanded (lookup s table (handleAt n))
-  handle-only = looked handleAt handle-asked refl
+  pub handle-looked : Looked (handleAt n)
+  handle-looked = looked handleAt handle-asked refl
 
-  pub indexed-only : (allowed : ℕ) → Only ofHanded (lookup s table (indexedAt allowed n))
-  indexed-only allowed = looked (indexedAt allowed) (λ m p. indexed-asked m p allowed) refl
+  pub indexed-looked : (allowed : ℕ) → Looked (indexedAt allowed n)
+  indexed-looked allowed = looked (indexedAt allowed) (λ m p. indexed-asked m p allowed) refl
 
   pub dependants-only : (room : ℕ) → Only ofDependants (dependants s table n room)
   dependants-only room = lookup-only s b table (dependantsAt n room) refl (λ p. wide (listed-asked n p room) refl)

@@ -13,7 +13,7 @@ use Rattle.pool.proofs.Entries.{same}
 use Rattle.text.specs.Text.{allOf}
 use Rattle.text.proofs.Laws.{and-both}
 use Rattle.reach.specs.Reach.{_∈_}
-use Rattle.attributes.specs.Records.{Many, records}
+use Rattle.reads.specs.Records.{Many, records}
 use Rattle.bootstrap.specs.Bootstrap.{steps}
 use Rattle.demands.specs.Calls.{Refuses, Only, OnlyAt}
 
@@ -105,6 +105,9 @@ need {ns} t nr place h = need-at t nr place (stands nr ns h)
 
 pub weaken : {A : Type 0} {P Q : ℕ → ℕ → Type 0} {x : Answer A} → ((nr place : ℕ) → P nr place → Q nr place) → Refuses P x → Refuses Q x
 weaken f p = record { with = λ nr place e. f nr place (p .with nr place e) }
+
+pub both : {A : Type 0} {P Q : ℕ → ℕ → Type 0} {x : Answer A} → Refuses P x → Refuses Q x → Refuses (λ nr place. P nr place × Q nr place) x
+both p q = record { with = λ nr place e. (p .with nr place e, q .with nr place e) }
 
 pub wide : {A : Type 0} {ms ns : List ℕ} {x : Answer A} → Only ms x → covers ns ms ≡ true → Only ns x
 wide {ms} {ns} p h = weaken (λ nr place m. covered ns ms h nr m) p

@@ -1,7 +1,7 @@
--- Where the refusals of the pool and of lookups stand. Assumes nothing.
+-- Where the refusals of the pool stand. Assumes nothing.
 use Prim.Native.Nat.{ℕ, zero, suc, _+_, _-_, _≤_, _<_}
 use native.Mathlib.Omega.{arith}
-use mathlib.Core.Path.{_≡_, refl, ap, _∙_}
+use mathlib.Core.Path.{_≡_, refl, ap}
 use mathlib.Core.Bool.{Bool, true, false, _&&_}
 use mathlib.Core.List.{List, [], _∷_, _++_, List·Memᴰ·eq-of-singleton}
 use mathlib.Core.Logic.{_⊎_, inl, inr}
@@ -19,8 +19,6 @@ use Rattle.pool.specs.Rows.{since, first as width, second, rowOf}
 use Rattle.pool.specs.Pool.{Pool, Whole, Read, roomFor, secondWidth, entryAt, slotAt, entries, allEntries, headerOf, readPool, slots}
 use Rattle.pool.proofs.Entries.{same, slot-in}
 use Rattle.checks.specs.Checks.{checked, pool}
-use Rattle.handed.specs.Handed.{handed, lookup}
-use Rattle.handed.proofs.Own.{on-own}
 use Rattle.reach.specs.Reach.{_∈_}
 use Rattle.demands.specs.Calls.{Refuses, OnlyAt}
 use Rattle.demands.specs.Numbers.{ofRead, ofChecks}
@@ -166,7 +164,7 @@ module _ (s : List ℕ) (room : ℕ) where
       let h = count-in (a .0) (a .1) in
       omega (arith, entries-next (a .0 .major) (a .0 .count - 1) false (0 ∷ []) 10 (r .0) h (b .1))
 
--- ---- the pool, and what is asked of it
+-- ---- the pool
 
 pub pool-placed : (s : List ℕ) (room : ℕ) → Refuses (λ nr place. WhileRead s room nr place ⊎ OfAnEntry s room nr place) (pool s room)
 unfolding pool
@@ -176,6 +174,3 @@ pool-placed s room =
   where
     of-entry : (w : Whole) → accept w ≡ readPool s room → (nr place : ℕ) → (nr ∈ ofChecks) × (place < slots (w .pool)) → OfAnEntry s room nr place
     of-entry w e nr place h = let b = lies 6 11 ofChecks refl nr (h .0) in record { whole = w; was-read = e; from-6 = b .0; to-11 = b .1; slot = h .1 }
-
-pub asked-placed : {A : Type 0} {ns : List ℕ} (s table : List ℕ) (w : Whole) → accept w ≡ handed s table → (n : ℕ) (f : Pool → Answer A) → OnlyAt ns n (f (w .pool)) → (nr place : ℕ) → refuse nr place ≡ lookup s table f → place ≡ n
-asked-placed s table w o n f h nr place e = h .with nr place (e ∙ on-own s table w o f) .1

@@ -3,7 +3,7 @@ use Prim.Native.Nat.{ℕ, _+_, _≤_, _<_}
 use native.Mathlib.Omega.{arith}
 use mathlib.Core.Path.{_≡_, refl, ap}
 use mathlib.Core.Bool.{Bool, true, false, not}
-use mathlib.Core.List.{List, [], _∷_}
+use mathlib.Core.List.{List, _++_}
 use mathlib.Core.Logic.{_⊎_, inl, inr}
 use lib.ListN.{length}
 use lib.Dec.{leb, ltb, eqb}
@@ -15,25 +15,24 @@ use Rattle.reads.proofs.Leaves.{skipped-in, u2-in, u4-in}
 use Rattle.pool.specs.Pool.{Pool, Whole as WholePool, slots}
 use Rattle.pool.proofs.Entries.{same}
 use Rattle.pool.proofs.Slots.{its-file}
-use Rattle.slot.specs.Slots.{tagOf, field, inRange, ofKind}
+use Rattle.slot.specs.Slots.{tagOf, field, inRange, ofKind, utf8At}
 use Rattle.checks.specs.Checks.{pool}
 use Rattle.checks.proofs.Room.{was-read}
 use Rattle.bootstrap.specs.Bootstrap.{isBootstrap, handles, loadable, bodyU2, indexAt, steps, methodAt, bootstrapBody, ownRule}
 use Rattle.bootstrap.specs.Indices.{bootstraps, belowEach, dynamic, bootstrapIndex, bootstrapIndices}
 use Rattle.attributes.specs.declared.Attribute.{Attribute}
-use Rattle.attributes.specs.Records.{Many, column}
-use Rattle.attributes.specs.Attributes.{utf8At, attributeAt, ruled, recordAt, bodyEnd, framed}
+use Rattle.reads.specs.Records.{Many, column}
+use Rattle.attributes.specs.Attributes.{attributeAt, ruled, recordAt, bodyEnd, framed}
 use Rattle.attributes.proofs.Tiled.{record-sound, tiled, tiles-in}
 use Rattle.member.specs.declared.Sort.{Sort}
 use Rattle.member.specs.Member.{goodShape, twice, textIn, partsAt, memberAt}
 use Rattle.member.proofs.Inside.{member-in}
-use Rattle.header.specs.declared.ClassHead.{ClassHead}
-use Rattle.header.specs.Header.{classAt, superAt, headAt, interfaceAt, past, interfacesAt}
-use Rattle.members.specs.Members.{Whole, Reached, Both, wholeAt, reach, sortAt, aField, aMethod, bothAt}
-use Rattle.tables.specs.Rest.{endAt, ownAt, tablesAt}
-use Rattle.classfile.specs.Class.{Rooms, marked, listedAt, restAt, classFile}
+use Rattle.class_head.specs.Header.{classAt, superAt, headAt, interfaceAt, past, interfacesAt}
+use Rattle.class.specs.Members.{Whole, Reached, wholeAt, reach, sortAt, aField, aMethod}
+use Rattle.class.specs.Class.{Rooms, Front, marked, frontAt, endAt, ownAt, tablesAt, classFile}
+use Rattle.class.proofs.Fronts.{head-in, front-pool}
 use Rattle.demands.specs.Calls.{Refuses, OnlyAt}
-use Rattle.demands.specs.Numbers.{ofBytes}
+use Rattle.demands.specs.Numbers.{ofIndex, ofSpelling, ofDescriptor, ofBytes}
 use Rattle.demands.specs.Places.{AfterPool, at-byte, at-slot, Beyond}
 use Rattle.demands.proofs.Only.{among, covers, covered, stands, done, then, need-at, pick, all-in, stepped, many-with, many-end, weaken}
 use Rattle.demands.proofs.Numbered.{u2-at, u4-at, skipped-at, range-at, kind-at}
@@ -142,8 +141,8 @@ module _ (p : Pool) where
     parts-stand at name type h =
         let i : In (at + 2) = omega arith in
         let j : In at = omega arith in
-        then (textIn k 10 p (at + 2) name) _ (byte i refl (text-in-at k p 10 (at + 2) name {ns = 7 ∷ 8 ∷ 9 ∷ 10 ∷ []} refl refl)) (λ _ _.
-        then (textIn k 11 p (at + 4) type) _ (byte h refl (text-in-at k p 11 (at + 4) type {ns = 7 ∷ 8 ∷ 9 ∷ 11 ∷ []} refl refl)) (λ _ _.
+        then (textIn k 10 p (at + 2) name) _ (byte i refl (text-in-at k p 10 (at + 2) name {ns = ofIndex ++ ofSpelling} refl refl)) (λ _ _.
+        then (textIn k 11 p (at + 4) type) _ (byte h refl (text-in-at k p 11 (at + 4) type {ns = ofIndex ++ ofDescriptor} refl refl)) (λ _ _.
         need-byte (goodShape k p name type) 15 at j refl))
 
     member-stands : (room n at : ℕ) (names types : List ℕ) → In at → Stands (memberAt k p room n at names types)
@@ -190,21 +189,6 @@ module _ (p : Pool) where
           let c = first (u2 (p .file) at) _ m e in
           many-end (λ s. In (s .at)) (wholeAt k p room limit) reach whole-end (c .0) n _ m (u2-in (p .file) at (c .0) (c .1)) (c .2)
 
-  module _ (interface : Bool) (room limit : ℕ) where
-    both-stand : (at : ℕ) → In at → Stands (bothAt interface p room limit at)
-    unfolding bothAt
-    both-stand at h =
-        then (sortAt aField p room limit 0 at 0) _ (sort-stands aField room limit 0 at 0 h) (λ fs e.
-        then (sortAt (aMethod interface) p room limit (length (fs .list)) (fs .end .at) (fs .end .used)) _ (sort-stands (aMethod interface) room limit (length (fs .list)) (fs .end .at) (fs .end .used) (sort-end aField room limit 0 at 0 fs e)) (λ _ _. done _))
-
-    both-end : (at : ℕ) (b : Both) → accept b ≡ bothAt interface p room limit at → In (b .next)
-    unfolding bothAt
-    both-end at b e =
-        let f = first (sortAt aField p room limit 0 at 0) _ b e in
-        let m = first (sortAt (aMethod interface) p room limit (length (f .0 .list)) (f .0 .end .at) (f .0 .end .used)) _ b (f .2) in
-        let x = ap (λ (x : Both). x .next) (same (m .2)) in
-        omega (arith, sort-end (aMethod interface) room limit (length (f .0 .list)) (f .0 .end .at) (f .0 .end .used) (m .0) (m .1))
-
   -- ---- the end, the header and the interfaces
 
   own-at-stands : (limit used at : ℕ) → In at → Stands (ownAt p limit used at)
@@ -221,8 +205,12 @@ module _ (p : Pool) where
   tables-stand : (interface : Bool) (room limit at : ℕ) → In at → Stands (tablesAt interface p room limit at)
   unfolding tablesAt
   tables-stand interface room limit at h =
-      then (bothAt interface p room limit at) _ (both-stand interface room limit at h) (λ b e.
-      then (ownAt p limit (b .used) (b .next)) _ (own-at-stands limit (b .used) (b .next) (both-end interface room limit at b e)) (λ _ _. done _))
+      then (sortAt aField p room limit 0 at 0) _ (sort-stands aField room limit 0 at 0 h) (λ fs e.
+      let m = aMethod interface in
+      let i = sort-end aField room limit 0 at 0 fs e in
+      then (sortAt m p room limit (length (fs .list)) (fs .end .at) (fs .end .used)) _ (sort-stands m room limit (length (fs .list)) (fs .end .at) (fs .end .used) i) (λ ms f.
+      let j = sort-end m room limit (length (fs .list)) (fs .end .at) (fs .end .used) ms f in
+      then (ownAt p limit (ms .end .used) (ms .end .at)) _ (own-at-stands limit (ms .end .used) (ms .end .at) j) (λ _ _. done _)))
 
   head-stands : (at : ℕ) → In at → Stands (headAt p at)
   unfolding headAt
@@ -235,16 +223,6 @@ module _ (p : Pool) where
       then (classAt p (at + 2) this) _ (byte i refl (class-at p (at + 2) this)) (λ _ _.
       then (u2 (p .file) (at + 4)) _ (byte l refl (u2-at (p .file) (at + 4))) (λ super _.
       then (superAt p (at + 4) super) _ (byte l refl (super-at p (at + 4) super)) (λ _ _. done _)))))
-
-  head-end : (at : ℕ) (c : ClassHead) → accept c ≡ headAt p at → In (at + 6)
-  unfolding headAt
-  head-end at c e =
-      let f = first (u2 (p .file) at) _ c e in
-      let t = first (u2 (p .file) (at + 2)) _ c (f .2) in
-      let a = first (classAt p (at + 2) (t .0)) _ c (t .2) in
-      let s = first (u2 (p .file) (at + 4)) _ c (a .2) in
-      let i = u2-in (p .file) (at + 4) (s .0) (s .1) in
-      omega arith
 
   module _ (room : ℕ) where
     interface-stands : (n at : ℕ) → In at → Stands (interfaceAt p room n at)
@@ -269,30 +247,45 @@ module _ (p : Pool) where
         let k = first (u2 (p .file) at) _ m e in
         many-end In (interfaceAt p room) past interface-end (k .0) 0 (at + 2) m (u2-in (p .file) at (k .0) (k .1)) (k .2)
 
-  -- ---- all that comes after the pool
-
-  listed-stands : (interface : Bool) (rooms : Rooms) (at : ℕ) → In at → Stands (listedAt interface p rooms at)
-  unfolding listedAt
-  listed-stands interface rooms at h =
-      then (interfacesAt p (rooms .interfaces) at) _ (interfaces-stand (rooms .interfaces) at h) (λ is e.
-      then (tablesAt interface p (rooms .members) (rooms .attributes) (is .end)) _ (tables-stand interface (rooms .members) (rooms .attributes) (is .end) (interfaces-end (rooms .interfaces) at is e)) (λ _ _. done _))
-
-  pub rest-stands : (rooms : Rooms) (at : ℕ) → In at → Stands (restAt p rooms at)
-  unfolding restAt
-  rest-stands rooms at h =
-      then (headAt p at) _ (head-stands at h) (λ c e.
-      then (listedAt (marked (c .flags)) p rooms (at + 6)) _ (listed-stands (marked (c .flags)) rooms (at + 6) (head-end at c e)) (λ _ _. done _))
-
 -- ---- the whole file: the pool's refusal, or one after the pool
 
-pub class-placed : (s : List ℕ) (rooms : Rooms) → Refuses (λ nr place. (refuse nr place ≡ pool s (rooms .cells)) ⊎ Beyond s (rooms .cells) nr place) (classFile s rooms)
-unfolding classFile
-class-placed s rooms =
-    then (pool s (rooms .cells)) _ (record { with = λ nr place e. inl e }) (λ w e.
-    then (restAt (w .pool) rooms (w .next)) _ (weaken (λ nr place h. inr (record { whole = w; accepted = e; after = h })) (rest-stands (w .pool) rooms (w .next) (in-file w e))) (λ _ _. done _))
-  where
-    in-file : (w : WholePool) → accept w ≡ pool s (rooms .cells) → w .next ≤ length (w .pool .file)
-    in-file w e =
-        let r = was-read s (rooms .cells) w e in
-        let q = ap length (its-file s (rooms .cells) w r) in
-        omega (arith, read-next s (rooms .cells) w r)
+module _ (s : List ℕ) where
+  pool-in : (room : ℕ) (w : WholePool) → accept w ≡ pool s room → w .next ≤ length (w .pool .file)
+  pool-in room w e =
+      let r = was-read s room w e in
+      let q = ap length (its-file s room w r) in
+      omega (arith, read-next s room w r)
+
+  front-in : (room len : ℕ) (f : Front) → accept f ≡ frontAt s room len → f .next ≤ length (f .pool .pool .file)
+  unfolding frontAt
+  front-in room len f e =
+      let w = first (pool s room) _ f e in
+      let h = first (headAt (w .0 .pool) (w .0 .next)) _ f (w .2) in
+      let i = first (interfacesAt (w .0 .pool) len (w .0 .next + 6)) _ f (h .2) in
+      let l = interfaces-end (w .0 .pool) len (w .0 .next + 6) (i .0) (i .1) in
+      let q : f .next ≡ i .0 .end = ap (λ (x : Front). x .next) (same (i .2)) in
+      let z = ap (λ (x : Front). length (x .pool .pool .file)) (same (i .2)) in
+      omega arith
+
+  abbrev Placed : {A : Type 0} → ℕ → Answer A → Type 0
+  Placed room x = Refuses (λ nr place. (refuse nr place ≡ pool s room) ⊎ Beyond s room nr place) x
+
+  beyond : {A : Type 0} (room : ℕ) (w : WholePool) → accept w ≡ pool s room → {x : Answer A} → Stands (w .pool) x → Placed room x
+  beyond room w e h = weaken (λ nr place a. inr (record { whole = w; accepted = e; after = a })) h
+
+  front-placed : (room len : ℕ) → Placed room (frontAt s room len)
+  unfolding frontAt
+  front-placed room len =
+      then (pool s room) _ (record { with = λ nr place e. inl e }) (λ w e.
+      then (headAt (w .pool) (w .next)) _ (beyond room w e (head-stands (w .pool) (w .next) (pool-in room w e))) (λ h g.
+      let i = head-in (w .pool) (w .next) h g in
+      then (interfacesAt (w .pool) len (w .next + 6)) _ (beyond room w e (interfaces-stand (w .pool) len (w .next + 6) i)) (λ _ _. done _)))
+
+  pub class-placed : (rooms : Rooms) → Placed (rooms .cells) (classFile s rooms)
+  unfolding classFile
+  class-placed rooms =
+      then (frontAt s (rooms .cells) (rooms .interfaces)) _ (front-placed (rooms .cells) (rooms .interfaces)) (λ f e.
+      let w = front-pool s (rooms .cells) (rooms .interfaces) f e in
+      let i = marked (f .head .flags) in
+      let t = tables-stand (f .pool .pool) i (rooms .members) (rooms .attributes) (f .next) (front-in (rooms .cells) (rooms .interfaces) f e) in
+      then (tablesAt i (f .pool .pool) (rooms .members) (rooms .attributes) (f .next)) _ (beyond (rooms .cells) (f .pool) w t) (λ _ _. done _))

@@ -1,4 +1,4 @@
--- Where a handed table differs from the cells that the file gives. Document 01, refusal 12. Assumes nothing.
+-- A statement: where a handed table differs from the cells that the file gives, as document 01 says it of refusal 12. Assumes nothing.
 use Prim.Native.Nat.{ℕ, _<_}
 use mathlib.Core.Path.{_≡_}
 use mathlib.Core.List.{List}

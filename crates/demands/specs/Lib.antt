@@ -1,6 +1,8 @@
 pub mod Calls
+pub mod Clauses
 pub mod Numbers
 pub mod Tellings
+pub mod Lent
 pub mod Records
 pub mod Dependants
 pub mod Handed

@@ -1,26 +1,48 @@
--- Which numbers the refusals of each call may have. Document 01, "Refusal numbers". Assumes nothing.
+-- A statement: which numbers the refusals of each call may have, of those in document 01's "Refusal numbers". Assumes nothing.
 use Prim.Native.Nat.{ℕ}
-use mathlib.Core.List.{List, [], _∷_}
+use mathlib.Core.List.{List, [], _∷_, _++_}
 
--- a read
+-- the last of document 01's numbers
+abbrev pub last : ℕ
+last = 18
+
+-- A list is made of the lists of its steps: a number is written where it is given, and a list may have one twice.
+
+-- ---- reads, and the entries
+
+-- a read past the file's end
 abbrev pub ofRead : List ℕ
 ofRead = 2 ∷ []
 
--- the file's first ten bytes
+-- the file's first ten bytes: its length, its magic
 abbrev pub ofHeader : List ℕ
-ofHeader = 1 ∷ 2 ∷ 3 ∷ []
+ofHeader = 1 ∷ 3 ∷ ofRead
 
--- one slot read
+-- an entry: its tag, and a handle's kind
+abbrev pub ofEntry : List ℕ
+ofEntry = 4 ∷ ofRead
+
+-- one slot read: its cell
 abbrev pub ofSlot : List ℕ
-ofSlot = 2 ∷ 4 ∷ 5 ∷ []
+ofSlot = 5 ∷ ofEntry
 
 -- the entries read
 abbrev pub ofEntries : List ℕ
-ofEntries = 1 ∷ 2 ∷ 3 ∷ 4 ∷ 5 ∷ []
+ofEntries = ofHeader ++ ofSlot
 
--- ... and held against a handed table
+-- two cells that differ
+abbrev pub ofTwelve : List ℕ
+ofTwelve = 12 ∷ []
+
+-- the entries held against a handed table
 abbrev pub ofAfresh : List ℕ
-ofAfresh = 1 ∷ 2 ∷ 3 ∷ 4 ∷ 5 ∷ 12 ∷ []
+ofAfresh = ofEntries ++ ofTwelve
+
+-- ---- what a slot must be
+
+-- a number that is a slot
+abbrev pub ofRange : List ℕ
+ofRange = 7 ∷ []
 
 -- the kind of a slot that is named
 abbrev pub ofKind : List ℕ
@@ -28,92 +50,125 @@ ofKind = 8 ∷ []
 
 -- a Utf8 that is text
 abbrev pub ofText : List ℕ
-ofText = 8 ∷ 9 ∷ []
+ofText = 9 ∷ ofKind
+
+-- a text that is a name
+abbrev pub ofSpelling : List ℕ
+ofSpelling = 10 ∷ []
+
+-- a text that is a descriptor
+abbrev pub ofDescriptor : List ℕ
+ofDescriptor = 11 ∷ []
 
 -- a class's name
 abbrev pub ofName : List ℕ
-ofName = 8 ∷ 9 ∷ 10 ∷ 11 ∷ []
+ofName = ofText ++ ofSpelling ++ ofDescriptor
 
 -- a NameAndType with a descriptor
 abbrev pub ofTyped : List ℕ
-ofTyped = 8 ∷ 9 ∷ 11 ∷ []
-
--- a number that is a slot
-abbrev pub ofRange : List ℕ
-ofRange = 7 ∷ []
-
--- two cells that differ
-abbrev pub ofTwelve : List ℕ
-ofTwelve = 12 ∷ []
+ofTyped = ofText ++ ofDescriptor
 
 -- the slot asked for
 abbrev pub ofAsked : List ℕ
-ofAsked = 7 ∷ 8 ∷ []
+ofAsked = ofRange ++ ofKind
 
 -- the index of a Utf8
 abbrev pub ofIndex : List ℕ
-ofIndex = 7 ∷ 8 ∷ 9 ∷ []
+ofIndex = ofRange ++ ofText
 
--- the pool's checks
+-- an entry's references: to itself, or out of range
+abbrev pub ofReferences : List ℕ
+ofReferences = 6 ∷ ofRange
+
+-- the pool's checks: of each entry, its references and what these must be
 abbrev pub ofChecks : List ℕ
-ofChecks = 6 ∷ 7 ∷ 8 ∷ 9 ∷ 10 ∷ 11 ∷ []
+ofChecks = ofReferences ++ ofName
 
 -- the pool
 abbrev pub ofPool : List ℕ
-ofPool = 1 ∷ 2 ∷ 3 ∷ 4 ∷ 5 ∷ 6 ∷ 7 ∷ 8 ∷ 9 ∷ 10 ∷ 11 ∷ []
+ofPool = ofEntries ++ ofChecks
+
+-- ---- handed tables
+
+-- the entries, where every slot has a cell
+abbrev pub ofUnbounded : List ℕ
+ofUnbounded = ofHeader ++ ofEntry
 
 -- a handed table, and every lookup on it: never 5
 abbrev pub ofHanded : List ℕ
-ofHanded = 1 ∷ 2 ∷ 3 ∷ 4 ∷ 6 ∷ 7 ∷ 8 ∷ 9 ∷ 10 ∷ 11 ∷ 12 ∷ []
+ofHanded = ofUnbounded ++ ofTwelve ++ ofChecks
+
+-- room for a list, or for records
+abbrev pub ofRoom : List ℕ
+ofRoom = 13 ∷ []
 
 -- the dependants of a slot
 abbrev pub ofDependants : List ℕ
-ofDependants = 1 ∷ 2 ∷ 3 ∷ 4 ∷ 6 ∷ 7 ∷ 8 ∷ 9 ∷ 10 ∷ 11 ∷ 12 ∷ 13 ∷ []
+ofDependants = ofHanded ++ ofRoom
+
+-- ---- the class
+
+-- a class named by an index
+abbrev pub ofClass : List ℕ
+ofClass = ofRange ++ ofKind ++ ofSpelling
+
+-- flags, this and super
+abbrev pub ofHead : List ℕ
+ofHead = ofRead ++ ofClass
+
+-- the interfaces
+abbrev pub ofInterfaces : List ℕ
+ofInterfaces = ofHead ++ ofRoom
+
+-- bytes left over, or too few
+abbrev pub ofEnd : List ℕ
+ofEnd = 18 ∷ []
 
 -- the body of a BootstrapMethods
 abbrev pub ofBody : List ℕ
-ofBody = 7 ∷ 8 ∷ 18 ∷ []
+ofBody = ofEnd ++ ofRange ++ ofKind
 
 -- the bootstrap indices
 abbrev pub ofIndices : List ℕ
 ofIndices = 16 ∷ 17 ∷ []
 
--- attributes
-abbrev pub ofFrame : List ℕ
-ofFrame = 1 ∷ 2 ∷ 7 ∷ 8 ∷ 9 ∷ 13 ∷ 18 ∷ []
+-- an attribute: its name, its length, its body
+abbrev pub ofAttribute : List ℕ
+ofAttribute = ofRead ++ ofIndex
+
+-- one of a member that becomes a record
+abbrev pub ofRecord : List ℕ
+ofRecord = ofAttribute ++ ofRoom
+
+-- one of the class's own
+abbrev pub ofOwn : List ℕ
+ofOwn = ofRecord ++ ofBody
+
+-- a member's name and descriptor
+abbrev pub ofParts : List ℕ
+ofParts = 15 ∷ ofIndex ++ ofSpelling ++ ofDescriptor
 
 -- a member up to its attributes
 abbrev pub ofMember : List ℕ
-ofMember = 2 ∷ 7 ∷ 8 ∷ 9 ∷ 10 ∷ 11 ∷ 13 ∷ 14 ∷ 15 ∷ []
+ofMember = 14 ∷ ofRead ++ ofParts ++ ofRoom
 
--- a class named by an index
-abbrev pub ofClass : List ℕ
-ofClass = 7 ∷ 8 ∷ 10 ∷ []
-
--- flags, this and super
-abbrev pub ofHead : List ℕ
-ofHead = 2 ∷ 7 ∷ 8 ∷ 10 ∷ []
-
--- the interfaces
-abbrev pub ofInterfaces : List ℕ
-ofInterfaces = 2 ∷ 7 ∷ 8 ∷ 10 ∷ 13 ∷ []
-
--- fields and methods
+-- fields and methods with their attributes
 abbrev pub ofMembers : List ℕ
-ofMembers = 1 ∷ 2 ∷ 7 ∷ 8 ∷ 9 ∷ 10 ∷ 11 ∷ 13 ∷ 14 ∷ 15 ∷ []
-
--- all that comes after the interfaces
-abbrev pub ofTables : List ℕ
-ofTables = 1 ∷ 2 ∷ 7 ∷ 8 ∷ 9 ∷ 10 ∷ 11 ∷ 13 ∷ 14 ∷ 15 ∷ 16 ∷ 17 ∷ 18 ∷ []
+ofMembers = ofMember ++ ofRecord
 
 -- what stands at a byte after the pool
 abbrev pub ofBytes : List ℕ
-ofBytes = 2 ∷ 7 ∷ 8 ∷ 9 ∷ 10 ∷ 11 ∷ 13 ∷ 14 ∷ 15 ∷ 18 ∷ []
+ofBytes = ofInterfaces ++ ofMembers ++ ofOwn
 
 -- a whole file: all but 12
 abbrev pub ofFile : List ℕ
-ofFile = 1 ∷ 2 ∷ 3 ∷ 4 ∷ 5 ∷ 6 ∷ 7 ∷ 8 ∷ 9 ∷ 10 ∷ 11 ∷ 13 ∷ 14 ∷ 15 ∷ 16 ∷ 17 ∷ 18 ∷ []
+ofFile = ofPool ++ ofBytes ++ ofIndices
 
 -- all of them
 abbrev pub lists : List (List ℕ)
-lists = ofRead ∷ ofHeader ∷ ofSlot ∷ ofEntries ∷ ofAfresh ∷ ofKind ∷ ofText ∷ ofName ∷ ofTyped ∷ ofRange ∷ ofTwelve ∷ ofAsked ∷ ofIndex ∷ ofChecks ∷ ofPool ∷ ofHanded ∷ ofDependants ∷ ofBody ∷ ofIndices ∷ ofFrame ∷ ofMember ∷ ofClass ∷ ofHead ∷ ofInterfaces ∷ ofMembers ∷ ofTables ∷ ofBytes ∷ ofFile ∷ []
+lists =
+    ofRead ∷ ofHeader ∷ ofEntry ∷ ofSlot ∷ ofEntries ∷ ofTwelve ∷ ofAfresh
+    ∷ ofRange ∷ ofKind ∷ ofText ∷ ofSpelling ∷ ofDescriptor ∷ ofName ∷ ofTyped ∷ ofAsked ∷ ofIndex ∷ ofReferences ∷ ofChecks ∷ ofPool
+    ∷ ofUnbounded ∷ ofHanded ∷ ofRoom ∷ ofDependants
+    ∷ ofClass ∷ ofHead ∷ ofInterfaces ∷ ofEnd ∷ ofBody ∷ ofIndices ∷ ofAttribute ∷ ofRecord ∷ ofOwn ∷ ofParts ∷ ofMember ∷ ofMembers
+    ∷ ofBytes ∷ ofFile ∷ []

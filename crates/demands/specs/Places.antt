@@ -1,13 +1,15 @@
--- Where refusals stand. Document 01, "Refusal numbers". Assumes nothing.
+-- A statement: where refusals stand, as document 01 says it in "Refusal numbers". Assumes nothing.
 use Prim.Native.Nat.{ℕ, _≤_, _<_}
 use mathlib.Core.Path.{_≡_}
 use mathlib.Core.List.{List}
+use mathlib.Core.Logic.{_⊎_}
 use lib.ListN.{length}
-use Rattle.reads.specs.Answer.{accept}
+use Rattle.reads.specs.Answer.{accept, refuse}
 use Rattle.pool.specs.Pool.{Pool, Whole, readPool, slots}
 use Rattle.checks.specs.Checks.{pool}
+use Rattle.handed.specs.Handed.{handed}
 use Rattle.reach.specs.Reach.{_∈_}
-use Rattle.demands.specs.Numbers.{ofBytes, ofIndices}
+use Rattle.demands.specs.Numbers.{ofEntries, ofPool, ofHanded, ofBytes, ofIndices, ofFile}
 
 -- number and place of a refusal while the entries of the file s are read into `room` cells
 pub data WhileRead (s : List ℕ) (room : ℕ) : ℕ → ℕ → Type 0 where
@@ -34,3 +36,20 @@ pub record Beyond (s : List ℕ) (room nr place : ℕ) : Type 0 where
   pub whole : Whole
   pub accepted : accept whole ≡ pool s room
   pub after : AfterPool (whole .pool) nr place
+
+-- ---- number and place of a refusal, by call
+
+-- where the entries alone are read, and where the pool is
+abbrev pub OfEntries : List ℕ → ℕ → ℕ → ℕ → Type 0
+OfEntries s room nr place = (nr ∈ ofEntries) × WhileRead s room nr place
+
+abbrev pub OfPool : List ℕ → ℕ → ℕ → ℕ → Type 0
+OfPool s room nr place = (nr ∈ ofPool) × (WhileRead s room nr place ⊎ OfAnEntry s room nr place)
+
+-- a lookup: on an accepted table at the slot asked for
+abbrev pub OfLookup : List ℕ → List ℕ → ℕ → ℕ → ℕ → Type 0
+OfLookup s table n nr place = (nr ∈ ofHanded) × ((w : Whole) → accept w ≡ handed s table → place ≡ n)
+
+-- a whole file: that of the pool call, or one after the pool
+abbrev pub OfFile : List ℕ → ℕ → ℕ → ℕ → Type 0
+OfFile s room nr place = (nr ∈ ofFile) × ((refuse nr place ≡ pool s room) ⊎ Beyond s room nr place)

@@ -1,6 +1,6 @@
--- The columns of members, as the numbers that records are made of. Assumes nothing.
-use Rattle.members.specs.Lent.{Columns}
+-- The code's own notion: the columns of members, as the numbers that records are made of. Assumes nothing.
+use Rattle.class.specs.Columns.{Columns, Flags, Names, Types, Firsts, Counts}
 use Rattle.records.specs.Records.{Numbers}
 
 abbrev pub numbersOf : Columns → Numbers
-numbersOf c = record { flags = c .flags; names = c .names; types = c .types; firsts = c .firsts; counts = c .counts }
+numbersOf c = record { flags = c .member Flags; names = c .member Names; types = c .member Types; firsts = c .member Firsts; counts = c .member Counts }

@@ -1,4 +1,4 @@
--- How the structs of the calls for C tell an answer. Assumes nothing.
+-- A statement: how the structs of the calls for C tell an answer. Assumes nothing.
 use Prim.Native.Nat.{ℕ}
 use mathlib.Core.Path.{_≡_, refl}
 use mathlib.Core.Bool.{Bool, true, false}
@@ -10,19 +10,19 @@ use Rattle.lookups.specs.declared.Held.{Held}
 use Rattle.lookups.specs.declared.Indexed.{Indexed}
 use Rattle.literal.specs.Values.{Literal}
 use Rattle.values.specs.declared.Span.{Span}
-use Rattle.classfile.specs.declared.Class.{Class}
-use Rattle.loader.specs.declared.LuoPoolAnswer.{LuoPoolAnswer}
-use Rattle.loader.specs.declared.LuoClassAnswer.{LuoClassAnswer}
-use Rattle.loader.specs.declared.LuoListAnswer.{LuoListAnswer}
-use Rattle.loader.specs.declared.LuoSlotAnswer.{LuoSlotAnswer}
-use Rattle.loader.specs.declared.LuoNamedAnswer.{LuoNamedAnswer}
-use Rattle.loader.specs.declared.LuoMemberAnswer.{LuoMemberAnswer}
-use Rattle.loader.specs.declared.LuoHandleAnswer.{LuoHandleAnswer}
-use Rattle.loader.specs.declared.LuoDynamicAnswer.{LuoDynamicAnswer}
-use Rattle.loader.specs.declared.LuoLiteralAnswer.{LuoLiteralAnswer}
-use Rattle.loader.specs.declared.LuoTextAnswer.{LuoTextAnswer}
-use Rattle.loader.specs.declared.LuoPartAnswer.{LuoPartAnswer}
-use Rattle.loader.specs.Numbers.{poolNumbers, classNumbers, listNumbers, slotNumbers, namedNumbers, memberNumbers, handleNumbers, dynamicNumbers, literalNumbers, textNumbers, partNumbers}
+use Rattle.class.specs.declared.Class.{Class}
+use Rattle.numbers.specs.declared.LuoPoolAnswer.{LuoPoolAnswer}
+use Rattle.numbers.specs.declared.LuoClassAnswer.{LuoClassAnswer}
+use Rattle.numbers.specs.declared.LuoListAnswer.{LuoListAnswer}
+use Rattle.numbers.specs.declared.LuoSlotAnswer.{LuoSlotAnswer}
+use Rattle.numbers.specs.declared.LuoNamedAnswer.{LuoNamedAnswer}
+use Rattle.numbers.specs.declared.LuoMemberAnswer.{LuoMemberAnswer}
+use Rattle.numbers.specs.declared.LuoHandleAnswer.{LuoHandleAnswer}
+use Rattle.numbers.specs.declared.LuoDynamicAnswer.{LuoDynamicAnswer}
+use Rattle.numbers.specs.declared.LuoLiteralAnswer.{LuoLiteralAnswer}
+use Rattle.numbers.specs.declared.LuoTextAnswer.{LuoTextAnswer}
+use Rattle.numbers.specs.declared.LuoPartAnswer.{LuoPartAnswer}
+use Rattle.numbers.specs.Numbers.{poolNumbers, classNumbers, listNumbers, slotNumbers, namedNumbers, memberNumbers, handleNumbers, dynamicNumbers, literalNumbers, textNumbers, partNumbers}
 use Rattle.demands.specs.Calls.{Telling}
 
 pub text-some : (b : Bool) → textNumbers (accept b) .refusal ≡ 0

@@ -3,16 +3,17 @@ use Prim.Native.Nat.{ℕ, _≤_, _<_}
 use mathlib.Core.Path.{_≡_, refl, sym, _∙_, ap}
 use mathlib.Core.List.{List}
 use lib.ListN.{length, take, replicate}
-use borrow.Author.Tests.{lt-ltb, le-ltb, le-leb, lt-leb}
+use borrow.Author.Tests.{le-leb, lt-leb}
 use Rattle.reads.specs.Answer.{Answer, fine, accept, refuse, _>>=_, mapped}
 use Rattle.reads.specs.Tables.{padded, after}
 use Rattle.reads.proofs.Answers.{same, first, whole-of}
 use Rattle.reads.proofs.Leaves.{Bytes}
 use Rattle.reads.proofs.Tables.{padded-none}
 use Rattle.pool.specs.declared.Head.{Head}
-use Rattle.pool.specs.Pool.{Pool, Whole, readPool, slots, seen}
+use Rattle.pool.specs.Pool.{Pool, Whole, readPool, seen}
 use Rattle.pool.specs.Readings.{headOf}
 use Rattle.pool.proofs.Room.{few-read}
+use Rattle.slot.specs.Slots.{inRange}
 use Rattle.checks.specs.Checks.{checked}
 use Rattle.handed.specs.Handed.{agree, judged, noLimit, handed}
 use Rattle.handed.proofs.Handed.{on-handed, off-handed}
@@ -32,18 +33,18 @@ pub ended : (t l xs : List ℕ) (room count : ℕ) → t ≡ padded 0 (length l)
 ended t l xs room count e h k = e ∙ rw (h, k) refl
 
 module _ (p : Pool) (n room : ℕ) (t : List ℕ) where
-  pub no-slot : slots p ≤ n → t ≡ replicate room 0 → Leaves room t (refuse 7 n) (dependantsAt n room p)
+  pub no-slot : (nr place : ℕ) → refuse nr place ≡ inRange p n n → t ≡ replicate room 0 → Leaves room t (refuse nr place) (dependantsAt n room p)
   unfolding dependantsAt
-  no-slot h z = rw (le-ltb n (slots p) h) (refl, z)
+  no-slot nr place h z = rw (← h) (refl, z)
 
-  module _ (h : n < slots p) (count : ℕ) (e : count ≡ length (dependantsIn p n)) where
+  module _ (h : fine ≡ inRange p n n) (count : ℕ) (e : count ≡ length (dependantsIn p n)) where
     pub no-room : room < count → t ≡ replicate room 0 → Leaves room t (refuse 13 count) (dependantsAt n room p)
     unfolding dependantsAt
-    no-room l z = rw (lt-ltb n (slots p) h, ← e, lt-leb count room l) (refl, z)
+    no-room l z = rw (← h, ← e, lt-leb count room l) (refl, z)
 
     pub listed : count ≤ room → t ≡ padded 0 room (dependantsIn p n) → Leaves room t (accept count) (dependantsAt n room p)
     unfolding dependantsAt
-    listed l z = rw (lt-ltb n (slots p) h, ← e, le-leb count room l) (ap accept e, z)
+    listed l z = rw (← h, ← e, le-leb count room l) (ap accept e, z)
 
 -- ---- the handed table
 

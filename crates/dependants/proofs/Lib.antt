@@ -2,4 +2,3 @@ pub mod Steps
 pub mod Stored
 pub mod Edge
 pub mod Demand
-pub mod Once

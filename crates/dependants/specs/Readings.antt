@@ -1,4 +1,4 @@
--- How the answer of this crate is read. Assumes nothing.
+-- The code's own notion: how the answer of this crate is read. Assumes nothing.
 use Prim.Native.Nat.{ℕ}
 use mathlib.Core.Path.{refl}
 use Rattle.reads.specs.Answer.{Answer, accept}

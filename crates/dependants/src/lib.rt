@@ -1,5 +1,6 @@
 // The dependants of a slot: every slot that reaches it along one or more references, into a lent list.
 use pool::PoolAnswer;
+use reads::CheckAnswer;
 use reads::Refusal;
 ghost use mathlib.Core.Path.{_≡_};
 ghost use mathlib.Core.Bool.{_||_};
@@ -116,12 +117,12 @@ fn list_at(
     ensures { λ r. ⌜ Is readingListed (mapped length (dependantsAt n (length (now (list .entry))) (seen (now (file .entry)) major (now (table .entry)) slots))) r ⌝ }
     ensures { λ r. ⌜ now (list .exit) ≡ after 0 (λ xs. xs) (length (now (list .entry))) (dependantsAt n (length (now (list .entry))) (seen (now (file .entry)) major (now (table .entry)) slots)) ⌝ }
 {
-    if slot::slots_of(file, major, table, slots) <= n {
-        reads::clear_list(list);
-        return DependantsAnswer::Refused(Refusal {
-            number: 7,
-            place: n,
-        });
+    match slot::check_range(file, major, table, slots, n, n) {
+        CheckAnswer::Refused(r) => {
+            reads::clear_list(list);
+            return DependantsAnswer::Refused(r);
+        }
+        CheckAnswer::Fine => {}
     }
     let count = store(file, major, table, slots, n, list);
     if list.len() < count {

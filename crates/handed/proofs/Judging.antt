@@ -49,7 +49,8 @@ stop [] table h l = absurd (omega arith)
 stop (c ∷ cells) [] h l = absurd (omega arith)
 stop (c ∷ cells) (t ∷ table) h l = by-cell (stop cells table) (eqb t c) refl h l
   where
-    by-cell : (agreeing cells table < length cells → agreeing cells table < length table → getD table (agreeing cells table) 0 ≡ getD cells (agreeing cells table) 0 → ⊥) → (b : Bool) → eqb t c ≡ b → cond b (suc (agreeing cells table)) 0 < suc (length cells) → cond b (suc (agreeing cells table)) 0 < suc (length table)
+    by-cell : (agreeing cells table < length cells → agreeing cells table < length table → getD table (agreeing cells table) 0 ≡ getD cells (agreeing cells table) 0 → ⊥) → (b : Bool) → eqb t c ≡ b → cond b (suc (agreeing cells table)) 0 < suc (length cells) → cond b (suc (agreeing cells table)) 0 <
+        suc (length table)
         → getD (t ∷ table) (cond b (suc (agreeing cells table)) 0) 0 ≡ getD (c ∷ cells) (cond b (suc (agreeing cells table)) 0) 0 → ⊥
     by-cell f true e h l = f (omega arith) (omega arith)
     by-cell f false e h l = eqb-false t c e

@@ -3,4 +3,4 @@ pub mod Walking
 pub mod Judging
 pub mod Own
 pub mod Answered
-pub mod Once
+pub mod Beginnings

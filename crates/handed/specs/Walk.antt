@@ -1,4 +1,4 @@
--- How a handed table is compared while the entries are read. Assumes nothing.
+-- The code's own notion: how a handed table is compared while the entries are read. Assumes nothing.
 use Prim.Native.Nat.{ℕ, suc, _+_, _-_}
 use mathlib.Core.Path.{refl}
 use mathlib.Core.List.{List, [], _∷_}

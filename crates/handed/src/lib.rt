@@ -163,11 +163,8 @@ pub fn check_asked(
 ) -> CheckAnswer
     ensures { λ r. ⌜ Is readingCheck (asked (seen (now (file .entry)) major (now (table .entry)) slots) allowed n) r ⌝ }
 {
-    if slot::slots_of(file, major, table, slots) <= n {
-        return CheckAnswer::Refused(Refusal {
-            number: 7,
-            place: n,
-        });
+    match slot::check_range(file, major, table, slots, n, n) {
+        CheckAnswer::Refused(r) => CheckAnswer::Refused(r),
+        CheckAnswer::Fine => slot::check_kind(file, major, table, slots, n, allowed, n),
     }
-    slot::check_kind(file, major, table, slots, n, allowed, n)
 }

@@ -1,4 +1,3 @@
 pub mod Few
 pub mod Thin
 pub mod Own
-pub mod Once

@@ -6,9 +6,9 @@ use Prim.Native.Nat.{ℕ}
 use Rattle.reads.specs.Answer.{Answer, accept, refuse, _>>=_}
 use Rattle.pool.specs.Pool.{Pool, Whole}
 use Rattle.handed.specs.Handed.{handed, lookup}
-use Rattle.replies.specs.declared.Reply.{Reply}
-use Rattle.replies.specs.Replies.{none, numbers, onPool, textValues}
-use Rattle.loader.specs.Numbers.{textOf, textNumbers}
+use Rattle.questions.specs.declared.Reply.{Reply}
+use Rattle.questions.specs.Replies.{none, numbers, onPool, textValues}
+use Rattle.numbers.specs.Numbers.{textOf, textNumbers}
 
 -- `out` takes from a reply what `num` says of an answer
 module _ {A X : Type 0} (out : Reply → X) (values : A → Reply) (num : Answer A → X) where

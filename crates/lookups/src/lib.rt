@@ -61,23 +61,7 @@ pub enum IndexedAnswer {
     Refused(Refusal),
 }
 
-const CLASS: u32 = 0x80;
-
 const MEMBERS: u32 = 0xE00;
-
-const NAME_AND_TYPE: u32 = 0x1000;
-
-const METHOD_HANDLE: u32 = 0x8000;
-
-const METHOD_TYPE: u32 = 0x10000;
-
-const DYNAMIC: u32 = 0x20000;
-
-const INVOKE_DYNAMIC: u32 = 0x40000;
-
-const MODULE: u32 = 0x80000;
-
-const PACKAGE: u32 = 0x100000;
 
 // The Utf8 slot that slot n names first.
 fn name_slot(file: &[u8], major: u16, table: &[u32], slots: usize, allowed: u32, n: usize) -> Num2
@@ -98,7 +82,14 @@ pub fn class_name<'a>(file: &'a [u8], table: &'a [u32], n: u32) -> Num2
 {
     match handed::check_handed(file, table) {
         PoolAnswer::Refused(r) => Num2::Refused(r),
-        PoolAnswer::Accepted(h) => name_slot(file, h.major, table, h.slots, CLASS, n as usize),
+        PoolAnswer::Accepted(h) => name_slot(
+            file,
+            h.major,
+            table,
+            h.slots,
+            pool::CLASS,
+            n as usize,
+        ),
     }
 }
 
@@ -108,7 +99,14 @@ pub fn module_name<'a>(file: &'a [u8], table: &'a [u32], n: u32) -> Num2
 {
     match handed::check_handed(file, table) {
         PoolAnswer::Refused(r) => Num2::Refused(r),
-        PoolAnswer::Accepted(h) => name_slot(file, h.major, table, h.slots, MODULE, n as usize),
+        PoolAnswer::Accepted(h) => name_slot(
+            file,
+            h.major,
+            table,
+            h.slots,
+            pool::MODULE,
+            n as usize,
+        ),
     }
 }
 
@@ -118,7 +116,14 @@ pub fn package_name<'a>(file: &'a [u8], table: &'a [u32], n: u32) -> Num2
 {
     match handed::check_handed(file, table) {
         PoolAnswer::Refused(r) => Num2::Refused(r),
-        PoolAnswer::Accepted(h) => name_slot(file, h.major, table, h.slots, PACKAGE, n as usize),
+        PoolAnswer::Accepted(h) => name_slot(
+            file,
+            h.major,
+            table,
+            h.slots,
+            pool::PACKAGE,
+            n as usize,
+        ),
     }
 }
 
@@ -133,7 +138,7 @@ pub fn method_type<'a>(file: &'a [u8], table: &'a [u32], n: u32) -> Num2
             h.major,
             table,
             h.slots,
-            METHOD_TYPE,
+            pool::METHOD_TYPE,
             n as usize,
         ),
     }
@@ -151,7 +156,7 @@ fn pair_of(file: &[u8], major: u16, table: &[u32], slots: usize, m: usize) -> Na
 fn named_at(file: &[u8], major: u16, table: &[u32], slots: usize, n: usize) -> NamedAnswer
     ensures { λ r. ⌜ Is readingNamed (namedAt n (seen (now (file .entry)) major (now (table .entry)) slots)) r ⌝ }
 {
-    match handed::check_asked(file, major, table, slots, NAME_AND_TYPE, n) {
+    match handed::check_asked(file, major, table, slots, pool::NAME_AND_TYPE, n) {
         CheckAnswer::Refused(r) => {
             return NamedAnswer::Refused(r);
         }
@@ -200,7 +205,7 @@ fn member_at(file: &[u8], major: u16, table: &[u32], slots: usize, n: usize) -> 
 fn handle_at(file: &[u8], major: u16, table: &[u32], slots: usize, n: usize) -> HeldAnswer
     ensures { λ r. ⌜ Is readingHeld (handleAt n (seen (now (file .entry)) major (now (table .entry)) slots)) r ⌝ }
 {
-    match handed::check_asked(file, major, table, slots, METHOD_HANDLE, n) {
+    match handed::check_asked(file, major, table, slots, pool::METHOD_HANDLE, n) {
         CheckAnswer::Refused(r) => {
             return HeldAnswer::Refused(r);
         }
@@ -271,7 +276,14 @@ pub fn dynamic_constant<'a>(file: &'a [u8], table: &'a [u32], n: u32) -> Indexed
 {
     match handed::check_handed(file, table) {
         PoolAnswer::Refused(r) => IndexedAnswer::Refused(r),
-        PoolAnswer::Accepted(h) => indexed_at(file, h.major, table, h.slots, DYNAMIC, n as usize),
+        PoolAnswer::Accepted(h) => indexed_at(
+            file,
+            h.major,
+            table,
+            h.slots,
+            pool::DYNAMIC,
+            n as usize,
+        ),
     }
 }
 
@@ -286,7 +298,7 @@ pub fn invoke_dynamic<'a>(file: &'a [u8], table: &'a [u32], n: u32) -> IndexedAn
             h.major,
             table,
             h.slots,
-            INVOKE_DYNAMIC,
+            pool::INVOKE_DYNAMIC,
             n as usize,
         ),
     }

@@ -11,7 +11,7 @@ use Rattle.reads.specs.Answer.{Answer, accept, refuse, _>>=_, mapped}
 use Rattle.reads.specs.Bytes.{u2}
 use Rattle.reads.proofs.Answers.{first, held}
 use Rattle.pool.specs.Pool.{Pool}
-use Rattle.attributes.proofs.Frames.{u2-in}
+use Rattle.reads.proofs.Leaves.{u2-in}
 use Rattle.member.specs.declared.Sort.{Sort}
 use Rattle.member.specs.declared.Member.{Member}
 use Rattle.member.specs.Member.{twice, partsAt, memberAt}

@@ -1,3 +1,2 @@
 pub mod Duplicates
 pub mod Inside
-pub mod Once

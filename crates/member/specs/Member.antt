@@ -9,8 +9,7 @@ use Rattle.reads.specs.Bytes.{u2}
 use Rattle.text.specs.Text.{same, unqualified, isInit, isClinit, methodName}
 use Rattle.descriptors.specs.Descriptors.{fieldDescriptor, methodDescriptor, returnsVoid, takesNothing}
 use Rattle.pool.specs.Pool.{Pool}
-use Rattle.slot.specs.Slots.{bytesOf}
-use Rattle.attributes.specs.Attributes.{utf8At}
+use Rattle.slot.specs.Slots.{bytesOf, utf8At}
 use Rattle.member.specs.declared.Sort.{Sort}
 use Rattle.member.specs.declared.Member.{Member}
 

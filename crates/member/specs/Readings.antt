@@ -1,7 +1,7 @@
--- How the answers of this crate are read. Assumes nothing.
-use mathlib.Core.Path.{_≡_, refl}
-use Rattle.reads.specs.Answer.{Answer, accept, refuse}
-use Rattle.reads.specs.Promise.{Reading, refused, refusal}
+-- The code's own notion: how the answers of this crate are read. Assumes nothing.
+use mathlib.Core.Path.{refl}
+use Rattle.reads.specs.Answer.{Answer, accept}
+use Rattle.reads.specs.Promise.{Reading, reading, refused}
 use Rattle.member.specs.declared.Member.{Member}
 use Rattle.member.specs.declared.MemberAnswer.{MemberAnswer}
 use Rattle.member.specs.declared.MemberAnswer.the-variants.{Got, Refused}
@@ -10,13 +10,5 @@ abbrev readMember : MemberAnswer → Answer Member
 readMember (Got m) = accept m
 readMember (Refused r) = refused r
 
-abbrev backMember : Answer Member → MemberAnswer
-backMember (accept m) = Got m
-backMember (refuse nr place) = Refused (refusal nr place)
-
-pub againMember : (r : MemberAnswer) → backMember (readMember r) ≡ r
-againMember (Got m) = refl
-againMember (Refused r) = refl
-
 abbrev pub readingMember : Reading MemberAnswer (Answer Member)
-readingMember = record { read = readMember; back = backMember; again = againMember }
+readingMember = reading Got Refused readMember (elim [ Got m ↦ refl | Refused r ↦ refl ])

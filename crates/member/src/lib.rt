@@ -203,7 +203,7 @@ fn check_text(
 ) -> CheckAnswer
     ensures { λ r. ⌜ Is readingCheck (textIn sort number (seen (now (file .entry)) major (now (table .entry)) slots) place m) r ⌝ }
 {
-    match attributes::check_utf8(file, major, table, slots, place, m) {
+    match slot::check_utf8_index(file, major, table, slots, place, m) {
         CheckAnswer::Refused(r) => {
             return CheckAnswer::Refused(r);
         }

@@ -2,7 +2,9 @@ pub mod Entries
 pub mod Filling
 pub mod Slots
 pub mod Room
+pub mod Size
 pub mod Edge
-pub mod Once
 pub mod Sets
 pub mod Entered
+pub mod Prefix
+pub mod Settling

@@ -5,7 +5,7 @@ use reads::Num2;
 use reads::Num4;
 use reads::Refusal;
 ghost use mathlib.Core.Path.{_≡_};
-ghost use Prim.Native.Nat.{_+_, _*_, _≤_};
+ghost use Prim.Native.Nat.{_+_, _≤_};
 ghost use lib.ListN.{length, replicate};
 ghost use Rattle.reads.specs.Answer.{mapped};
 ghost use Rattle.reads.specs.Promise.{Is, reading2};
@@ -80,6 +80,31 @@ pub enum PoolAnswer {
     Refused(Refusal),
 }
 
+// Sets of kinds: bit k for the kind whose tag is k.
+pub const UTF8: u32 = 0x2;
+
+pub const CLASS: u32 = 0x80;
+
+pub const FIELD_REF: u32 = 0x200;
+
+pub const METHOD_REF: u32 = 0x400;
+
+pub const INTERFACE_METHOD_REF: u32 = 0x800;
+
+pub const NAME_AND_TYPE: u32 = 0x1000;
+
+pub const METHOD_HANDLE: u32 = 0x8000;
+
+pub const METHOD_TYPE: u32 = 0x10000;
+
+pub const DYNAMIC: u32 = 0x20000;
+
+pub const INVOKE_DYNAMIC: u32 = 0x40000;
+
+pub const MODULE: u32 = 0x80000;
+
+pub const PACKAGE: u32 = 0x100000;
+
 // The row of a tag: the table of entries. An arm is a constant; an array would be made anew in each call.
 pub fn row_of(tag: u8) -> Row
     ensures { λ r. ⌜ r ≡ rowOf tag ⌝ }
@@ -106,13 +131,6 @@ pub fn row_of(tag: u8) -> Row
     }
 }
 
-// Two bytes as one number, the first the higher.
-fn join2(a: u8, b: u8) -> u16
-    ensures { λ r. ⌜ r ≡ a * 256 + b ⌝ }
-{
-    (a as u16) * 256 + (b as u16)
-}
-
 // The width of an entry's second read, after the first at b was found in the file: of a Utf8 what the first gives, of a handle only
 // where its kind is known. Neither is asked for a second time, so that a slot is short enough to become part of the loop over it.
 fn second_width(file: &[u8], b: usize, tag: u8, width: u8) -> Num2
@@ -120,7 +138,7 @@ fn second_width(file: &[u8], b: usize, tag: u8, width: u8) -> Num2
     ensures { λ r. ⌜ Is reading2 (secondWidth (now (file .entry)) b tag width) r ⌝ }
 {
     if tag == 1 {
-        return Num2::Got(join2(file[b], file[b + 1]));
+        return Num2::Got(reads::join2(file[b], file[b + 1]));
     }
     if tag == 15 {
         let kind = file[b];

@@ -1,4 +1,5 @@
 pub mod Answers
 pub mod Leaves
-pub mod Once
 pub mod Tables
+pub mod Columns
+pub mod Placed

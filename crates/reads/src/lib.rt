@@ -1,9 +1,9 @@
 // Big-endian reads at a byte of the file, each with refusal 2 where it passes the end; and lent tables made zero.
 ghost use mathlib.Core.Path.{_≡_};
-ghost use Prim.Native.Nat.{_+_, _*_};
+ghost use Prim.Native.Nat.{_+_, _*_, min};
 ghost use lib.ListN.{length, take, drop, replicate};
-ghost use Rattle.reads.specs.Bytes.{num1, num2, u1, u2, u4, u8, skipped};
-ghost use Rattle.reads.specs.Promise.{Is, reading1, reading2, reading4, reading8, readingNext};
+ghost use Rattle.reads.specs.Bytes.{num1, num2, u1, u2, u4, skipped};
+ghost use Rattle.reads.specs.Promise.{Is, reading1, reading2, reading4, readingNext};
 
 // A refusal: its number and its place.
 pub struct Refusal {
@@ -29,12 +29,6 @@ pub enum Num4 {
     Refused(Refusal),
 }
 
-// The same of eight bytes.
-pub enum Num8 {
-    Got(u64),
-    Refused(Refusal),
-}
-
 // What a read that keeps nothing gives: the byte after it, or refusal 2.
 pub enum Next {
     At(usize),
@@ -47,8 +41,15 @@ pub enum CheckAnswer {
     Refused(Refusal),
 }
 
+// The smaller of two numbers.
+pub fn least(a: usize, b: usize) -> usize
+    ensures { λ r. ⌜ r ≡ min a b ⌝ }
+{
+    if a <= b { a } else { b }
+}
+
 // Two bytes as one number, the first the higher.
-fn join2(a: u8, b: u8) -> u16
+pub fn join2(a: u8, b: u8) -> u16
     ensures { λ r. ⌜ r ≡ a * 256 + b ⌝ }
 {
     (a as u16) * 256 + (b as u16)
@@ -168,27 +169,6 @@ pub fn read_u4(s: &[u8], at: usize) -> Num4
         });
     }
     Num4::Got(join4(join2(s[at], s[at + 1]), join2(s[at + 2], s[at + 3])))
-}
-
-// The big-endian number of the eight bytes from a place on.
-pub fn read_u8(s: &[u8], at: usize) -> Num8
-    ensures { λ r. ⌜ Is reading8 (u8 (now (s .entry)) at) r ⌝ }
-{
-    if s.len() < at {
-        return Num8::Refused(Refusal {
-            number: 2,
-            place: at,
-        });
-    }
-    if s.len() - at < 8 {
-        return Num8::Refused(Refusal {
-            number: 2,
-            place: at,
-        });
-    }
-    let high = join4(join2(s[at], s[at + 1]), join2(s[at + 2], s[at + 3]));
-    let low = join4(join2(s[at + 4], s[at + 5]), join2(s[at + 6], s[at + 7]));
-    Num8::Got(join8(high, low))
 }
 
 // Makes every cell of a lent table zero.

@@ -1,4 +1,3 @@
 mod Filled
 pub mod Listed
-pub mod Once
 pub mod Zeros

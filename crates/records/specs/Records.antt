@@ -1,4 +1,4 @@
--- Members and attributes as numbers, a list for each, and as records. Assumes nothing.
+-- Members and attributes as numbers, a list for each, and as records. Document 01, "File and lent tables". Assumes nothing.
 use Prim.Native.Nat.{ℕ, zero, suc}
 use mathlib.Core.List.{List, [], _∷_}
 use lib.ListN.{getD}

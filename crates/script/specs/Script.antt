@@ -1,4 +1,4 @@
--- A script's lines, words, numbers and byte strings. Assumes nothing.
+-- The code's own notion: a script's lines, words, numbers and byte strings. Assumes nothing.
 use Prim.Native.Nat.{ℕ, zero, suc, _+_, _*_, _-_}
 use mathlib.Core.List.{List, [], _∷_}
 use mathlib.Core.Bool.{Bool, true, false, cond, not}

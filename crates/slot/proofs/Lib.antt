@@ -1,4 +1,3 @@
 pub mod Cells
 pub mod Bits
-pub mod Once
 pub mod Simple

@@ -7,7 +7,7 @@ ghost use Rattle.reads.specs.Promise.{Is, readingCheck};
 ghost use Rattle.text.specs.Text.{isText};
 ghost use Rattle.pool.specs.Kinds.{has};
 ghost use Rattle.pool.specs.Pool.{seen, slots as slotsOf};
-ghost use Rattle.slot.specs.Slots.{cell, tagOf, field, bytesOf, ofKind, textAt, textOf, className, classText, typed};
+ghost use Rattle.slot.specs.Slots.{cell, tagOf, field, bytesOf, inRange, ofKind, textAt, utf8At, textOf, className, classText, typed};
 ghost use Rattle.slot.specs.Grammars.{good, simple};
 
 // What a text must be.
@@ -19,10 +19,6 @@ pub enum Grammar {
     MethodDescriptor,
 }
 
-const UTF8: u32 = 0x2;
-
-const NAME_AND_TYPE: u32 = 0x1000;
-
 // How many of a table's first cells are slots: no more than it has.
 pub fn slots_of(file: &[u8], major: u16, table: &[u32], slots: usize) -> usize
     ensures { λ r. ⌜ r ≡ slotsOf (seen (now (file .entry)) major (now (table .entry)) slots) ⌝ }
@@ -31,6 +27,23 @@ pub fn slots_of(file: &[u8], major: u16, table: &[u32], slots: usize) -> usize
         return table.len();
     }
     slots
+}
+
+// That m is a slot.
+pub fn check_range(
+    file: &[u8],
+    major: u16,
+    table: &[u32],
+    slots: usize,
+    place: usize,
+    m: usize,
+) -> CheckAnswer
+    ensures { λ r. ⌜ Is readingCheck (inRange (seen (now (file .entry)) major (now (table .entry)) slots) place m) r ⌝ }
+{
+    if slots_of(file, major, table, slots) <= m {
+        return CheckAnswer::Refused(Refusal { number: 7, place });
+    }
+    CheckAnswer::Fine
 }
 
 // Cell n of a table's first slots; 0 for what is no slot.
@@ -123,7 +136,7 @@ pub fn check_utf8(
 ) -> CheckAnswer
     ensures { λ r. ⌜ Is readingCheck (textAt (seen (now (file .entry)) major (now (table .entry)) slots) place m) r ⌝ }
 {
-    match check_kind(file, major, table, slots, place, UTF8, m) {
+    match check_kind(file, major, table, slots, place, pool::UTF8, m) {
         CheckAnswer::Refused(r) => {
             return CheckAnswer::Refused(r);
         }
@@ -133,6 +146,23 @@ pub fn check_utf8(
         return CheckAnswer::Fine;
     }
     CheckAnswer::Refused(Refusal { number: 9, place })
+}
+
+// That an index names a slot, and that this is a Utf8 entry and text.
+pub fn check_utf8_index(
+    file: &[u8],
+    major: u16,
+    table: &[u32],
+    slots: usize,
+    place: usize,
+    m: usize,
+) -> CheckAnswer
+    ensures { λ r. ⌜ Is readingCheck (utf8At (seen (now (file .entry)) major (now (table .entry)) slots) place m) r ⌝ }
+{
+    match check_range(file, major, table, slots, place, m) {
+        CheckAnswer::Refused(r) => CheckAnswer::Refused(r),
+        CheckAnswer::Fine => check_utf8(file, major, table, slots, place, m),
+    }
 }
 
 // Whether a text is of a grammar.
@@ -174,7 +204,7 @@ pub fn check_text(
 ) -> CheckAnswer
     ensures { λ r. ⌜ Is readingCheck (textOf (good grammar) number (seen (now (file .entry)) major (now (table .entry)) slots) place m) r ⌝ }
 {
-    match check_kind(file, major, table, slots, place, UTF8, m) {
+    match check_kind(file, major, table, slots, place, pool::UTF8, m) {
         CheckAnswer::Refused(r) => {
             return CheckAnswer::Refused(r);
         }
@@ -220,7 +250,7 @@ pub fn check_class_name(
 ) -> CheckAnswer
     ensures { λ r. ⌜ Is readingCheck (classText (seen (now (file .entry)) major (now (table .entry)) slots) place m) r ⌝ }
 {
-    match check_kind(file, major, table, slots, place, UTF8, m) {
+    match check_kind(file, major, table, slots, place, pool::UTF8, m) {
         CheckAnswer::Refused(r) => {
             return CheckAnswer::Refused(r);
         }
@@ -248,7 +278,7 @@ pub fn check_typed(
 ) -> CheckAnswer
     ensures { λ r. ⌜ Is readingCheck (typed (good grammar) (seen (now (file .entry)) major (now (table .entry)) slots) place m) r ⌝ }
 {
-    match check_kind(file, major, table, slots, place, NAME_AND_TYPE, m) {
+    match check_kind(file, major, table, slots, place, pool::NAME_AND_TYPE, m) {
         CheckAnswer::Refused(r) => {
             return CheckAnswer::Refused(r);
         }

@@ -10,19 +10,18 @@ use Rattle.reads.specs.Answer.{fine, accept}
 use Rattle.reads.specs.Bytes.{u2}
 use Rattle.reads.proofs.Answers.{same, first, held}
 use Rattle.pool.specs.Pool.{Pool}
-use Rattle.checks.specs.Checks.{pool}
+use Rattle.slot.specs.Slots.{utf8At}
 use Rattle.attributes.specs.declared.Attribute.{Attribute}
-use Rattle.attributes.specs.Records.{Many, records, column}
-use Rattle.attributes.specs.Attributes.{utf8At, recordAt, bodyEnd, framed}
+use Rattle.reads.specs.Records.{Many, records, column}
+use Rattle.attributes.specs.Attributes.{recordAt, bodyEnd, framed}
 use Rattle.attributes.specs.Sound.{Named, Tiles}
-use Rattle.attributes.proofs.Tiled.{named-by, tiled, made}
+use Rattle.reads.proofs.Columns.{made}
+use Rattle.attributes.proofs.Tiled.{named-by, tiled}
 use Rattle.member.specs.declared.Sort.{Sort}
 use Rattle.member.specs.declared.Member.{Member}
 use Rattle.member.specs.Member.{twice, textIn, partsAt, memberAt}
-use Rattle.header.specs.Header.{headAt, interfacesAt}
-use Rattle.members.specs.Members.{Whole, Reached, Both, wholeAt, reach, membersOf, sortAt, aField, aMethod, bothAt}
-use Rattle.tables.specs.Rest.{Tables, endAt, ownAt, tablesAt}
-use Rattle.classfile.specs.Class.{Rooms, Listed, Rest, Class, marked, listedAt, restAt, classFile}
+use Rattle.class.specs.Members.{Whole, Reached, wholeAt, reach, membersOf, sortAt, aField, aMethod}
+use Rattle.class.specs.Class.{Rooms, Tables, Class, marked, endAt, ownAt, tablesAt, frontAt, classFile}
 use Rattle.sound.specs.Sound.{SoundMember, InOrder, SoundTables}
 
 -- ---- one member
@@ -98,47 +97,27 @@ module _ (p : Pool) where
       subst (λ (y : Many Attribute ℕ). Tiles p (at + 2) (y .list) (length (p .file))) (sym (same (v .2))) (subst (Tiles p (at + 2) (u .0 .list)) q x)
 
   pub tables-sound : (interface : Bool) (room limit at : ℕ) (t : Tables) → accept t ≡ tablesAt interface p room limit at → SoundTables p at t
-  unfolding tablesAt bothAt
+  unfolding tablesAt
   tables-sound interface room limit at t e =
-      let b = first (bothAt interface p room limit at) _ t e in
-      let o = first (ownAt p limit (b .0 .used) (b .0 .next)) _ t (b .2) in
-      let f = first (sortAt aField p room limit 0 at 0) _ (b .0) (b .1) in
-      let m = first (sortAt (aMethod interface) p room limit (length (f .0 .list)) (f .0 .end .at) (f .0 .end .used)) _ (b .0) (f .2) in
-      let s : SoundTables p at (record { members = record { fields = f .0 .list; methods = m .0 .list; next = m .0 .end .at; used = m .0 .end .used }; own = o .0 .list }) = record {
+      let f = first (sortAt aField p room limit 0 at 0) _ t e in
+      let m = first (sortAt (aMethod interface) p room limit (length (f .0 .list)) (f .0 .end .at) (f .0 .end .used)) _ t (f .2) in
+      let o = first (ownAt p limit (m .0 .end .used) (m .0 .end .at)) _ t (m .2) in
+      subst (SoundTables p at) (sym (same (o .2)))
+      (record {
         middle = f .0 .end .at;
         made = f .0 .end .used;
+        last = m .0 .end .at;
         fields = sort-in-order aField p room limit 0 at 0 (f .0) (f .1);
         methods = sort-in-order (aMethod interface) p room limit (length (f .0 .list)) (f .0 .end .at) (f .0 .end .used) (m .0) (m .1);
-        own = subst (λ (x : Both). Tiles p (x .next + 2) (o .0 .list) (length (p .file))) (same (m .2)) (own-sound limit (b .0 .used) (b .0 .next) (o .0) (o .1));
-      } in
-      subst (SoundTables p at) (sym (same (o .2))) (subst (λ (x : Both). SoundTables p at (record { members = x; own = o .0 .list })) (sym (same (m .2))) s)
+        own = own-sound limit (m .0 .end .used) (m .0 .end .at) (o .0) (o .1);
+      })
 
 -- ---- the whole file
 
--- where the fields' number stands
-pub record SoundClass (c : Class) : Type 0 where
-  pub at : ℕ
-  pub tables : SoundTables (c .pool .pool) at (c .rest .listed .tables)
-
-listed-sound : (interface : Bool) (p : Pool) (rooms : Rooms) (at : ℕ) (l : Listed) → accept l ≡ listedAt interface p rooms at → (n : ℕ) × SoundTables p n (l .tables)
-unfolding listedAt
-listed-sound interface p rooms at l e =
-    let i = first (interfacesAt p (rooms .interfaces) at) _ l e in
-    let t = first (tablesAt interface p (rooms .members) (rooms .attributes) (i .0 .end)) _ l (i .2) in
-    (i .0 .end, subst (λ (x : Listed). SoundTables p (i .0 .end) (x .tables)) (sym (same (t .2))) (tables-sound p interface (rooms .members) (rooms .attributes) (i .0 .end) (t .0) (t .1)))
-
-rest-sound : (p : Pool) (rooms : Rooms) (at : ℕ) (r : Rest) → accept r ≡ restAt p rooms at → (n : ℕ) × SoundTables p n (r .listed .tables)
-unfolding restAt
-rest-sound p rooms at r e =
-    let h = first (headAt p at) _ r e in
-    let l = first (listedAt (marked (h .0 .flags)) p rooms (at + 6)) _ r (h .2) in
-    let s = listed-sound (marked (h .0 .flags)) p rooms (at + 6) (l .0) (l .1) in
-    (s .0, subst (λ (x : Rest). SoundTables p (s .0) (x .listed .tables)) (sym (same (l .2))) (s .1))
-
-pub class-sound : (s : List ℕ) (rooms : Rooms) (c : Class) → accept c ≡ classFile s rooms → SoundClass c
+-- from the byte where the fields' number stands
+pub class-sound : (s : List ℕ) (rooms : Rooms) (c : Class) → accept c ≡ classFile s rooms → SoundTables (c .front .pool .pool) (c .front .next) (c .tables)
 unfolding classFile
 class-sound s rooms c e =
-    let w = first (pool s (rooms .cells)) _ c e in
-    let r = first (restAt (w .0 .pool) rooms (w .0 .next)) _ c (w .2) in
-    let t = rest-sound (w .0 .pool) rooms (w .0 .next) (r .0) (r .1) in
-    subst SoundClass (sym (same (r .2))) (record { at = t .0; tables = t .1 })
+    let f = first (frontAt s (rooms .cells) (rooms .interfaces)) _ c e in
+    let t = first (tablesAt (marked (f .0 .head .flags)) (f .0 .pool .pool) (rooms .members) (rooms .attributes) (f .0 .next)) _ c (f .2) in
+    subst (λ (x : Class). SoundTables (x .front .pool .pool) (x .front .next) (x .tables)) (sym (same (t .2))) (tables-sound (f .0 .pool .pool) (marked (f .0 .head .flags)) (rooms .members) (rooms .attributes) (f .0 .next) (t .0) (t .1))

@@ -14,10 +14,9 @@ use Rattle.pool.proofs.Slots.{its-file}
 use Rattle.checks.proofs.Room.{was-read, few-slots}
 use Rattle.attributes.specs.declared.Attribute.{Attribute}
 use Rattle.attributes.specs.Sound.{Tiles}
-use Rattle.members.specs.Members.{Whole}
-use Rattle.tables.specs.Rest.{Tables}
-use Rattle.classfile.specs.Class.{Rooms, Class, restAt, classFile}
-use Rattle.classfile.proofs.Classes.{not-too-long}
+use Rattle.class.specs.Members.{Whole}
+use Rattle.class.specs.Class.{Rooms, Tables, Class, marked, frontAt, tablesAt, classFile}
+use Rattle.class.proofs.Fronts.{front-pool, not-too-long}
 use Rattle.sound.specs.Sound.{InOrder, SoundTables}
 use Rattle.sound.proofs.Accepted.{class-sound}
 
@@ -34,30 +33,30 @@ order-long p at used (w ∷ ws) end made e =
     let r = order-long p (w .next) (used + w .member .count) ws end made (e .1) in
     (omega (arith, t, r .0), omega (arith, t, r .1, e .0 .count))
 
-tables-long : (p : Pool) (at : ℕ) (t : Tables) → SoundTables p at t → 6 * t .members .used ≤ length (p .file)
+tables-long : (p : Pool) (at : ℕ) (t : Tables) → SoundTables p at t → 6 * t .used ≤ length (p .file)
 tables-long p at t s =
-    let f = order-long p (at + 2) 0 (t .members .fields) (s .middle) (s .made) (s .fields) in
-    let m = order-long p (s .middle + 2) (s .made) (t .members .methods) (t .members .next) (t .members .used) (s .methods) in
-    let o = tiles-long p (t .members .next + 2) (t .own) (length (p .file)) (s .own) in
+    let f = order-long p (at + 2) 0 (t .fields) (s .middle) (s .made) (s .fields) in
+    let m = order-long p (s .middle + 2) (s .made) (t .methods) (s .last) (t .used) (s .methods) in
+    let o = tiles-long p (s .last + 2) (t .own) (length (p .file)) (s .own) in
     omega (arith, f .1, m .1, o)
 
 module _ (s : List ℕ) (rooms : Rooms) (c : Class) (e : accept c ≡ classFile s rooms) where
-  was-pool : accept (c .pool) ≡ pool s (rooms .cells)
+  was-pool : accept (c .front .pool) ≡ pool s (rooms .cells)
   unfolding classFile
   was-pool =
-      let w = first (pool s (rooms .cells)) _ c e in
-      let r = first (restAt (w .0 .pool) rooms (w .0 .next)) _ c (w .2) in
-      let z : c .pool ≡ w .0 = cc in
-      ap accept z ∙ w .1
+      let f = first (frontAt s (rooms .cells) (rooms .interfaces)) _ c e in
+      let t = first (tablesAt (marked (f .0 .head .flags)) (f .0 .pool .pool) (rooms .members) (rooms .attributes) (f .0 .next)) _ c (f .2) in
+      let z : c .front ≡ f .0 = cc in
+      front-pool s (rooms .cells) (rooms .interfaces) (c .front) (ap accept z ∙ f .1)
 
   -- the members' attribute records take six bytes of the file each at least
-  pub few-attributes : 6 * c .rest .listed .tables .members .used ≤ 16777216
+  pub few-attributes : 6 * c .tables .used ≤ 16777216
   few-attributes =
       let t = class-sound s rooms c e in
-      let l = tables-long (c .pool .pool) (t .at) (c .rest .listed .tables) (t .tables) in
-      let f = its-file s (rooms .cells) (c .pool) (was-read s (rooms .cells) (c .pool) was-pool) in
-      omega (arith, rw f at l, not-too-long s (rooms .cells) (c .pool) was-pool)
+      let l = tables-long (c .front .pool .pool) (c .front .next) (c .tables) t in
+      let f = its-file s (rooms .cells) (c .front .pool) (was-read s (rooms .cells) (c .front .pool) was-pool) in
+      omega (arith, rw f at l, not-too-long s (rooms .cells) (c .front .pool) was-pool)
 
   -- so what the call for C answers, as numbers below 2 ^ 32, is what the reader answers
-  pub whole-numbers : Bytes s → (slots (c .pool .pool) % 4294967296 ≡ slots (c .pool .pool)) × (c .rest .listed .tables .members .used % 4294967296 ≡ c .rest .listed .tables .members .used)
-  whole-numbers b = (mod-eq-of-lt (omega (arith, few-slots s (rooms .cells) (c .pool) was-pool b)), mod-eq-of-lt (omega (arith, few-attributes)))
+  pub whole-numbers : Bytes s → (slots (c .front .pool .pool) % 4294967296 ≡ slots (c .front .pool .pool)) × (c .tables .used % 4294967296 ≡ c .tables .used)
+  whole-numbers b = (mod-eq-of-lt (omega (arith, few-slots s (rooms .cells) (c .front .pool) was-pool b)), mod-eq-of-lt (omega (arith, few-attributes)))

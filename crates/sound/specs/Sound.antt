@@ -1,12 +1,12 @@
--- What the tables of an accepted file say of the file. Document 01, "File and lent tables". Assumes nothing.
-use Prim.Native.Nat.{ℕ, _+_, _≤_}
+-- A statement: what the tables of an accepted file say of the file, as document 01 asks in "File and lent tables". Assumes nothing.
+use Prim.Native.Nat.{ℕ, _+_}
 use mathlib.Core.Path.{_≡_}
 use mathlib.Core.List.{List, [], _∷_}
 use lib.ListN.{length}
 use Rattle.pool.specs.Pool.{Pool}
 use Rattle.attributes.specs.Sound.{Named, Tiles}
-use Rattle.members.specs.Members.{Whole, Both}
-use Rattle.tables.specs.Rest.{Tables}
+use Rattle.class.specs.Members.{Whole}
+use Rattle.class.specs.Class.{Tables}
 
 -- a member whose first byte is `at` and before which `used` attribute records were made: its name and its descriptor are texts of the pool; its attribute records follow those before, as many as it says; they tile the file from the byte after its four u2 up to the byte after the member
 pub record SoundMember (p : Pool) (at used : ℕ) (w : Whole) : Type 0 where
@@ -25,6 +25,7 @@ InOrder p at used (w ∷ ws) end made = SoundMember p at used w × InOrder p (w 
 pub record SoundTables (p : Pool) (at : ℕ) (t : Tables) : Type 0 where
   pub middle : ℕ
   pub made : ℕ
-  pub fields : InOrder p (at + 2) 0 (t .members .fields) middle made
-  pub methods : InOrder p (middle + 2) made (t .members .methods) (t .members .next) (t .members .used)
-  pub own : Tiles p (t .members .next + 2) (t .own) (length (p .file))
+  pub last : ℕ
+  pub fields : InOrder p (at + 2) 0 (t .fields) middle made
+  pub methods : InOrder p (middle + 2) made (t .methods) last (t .used)
+  pub own : Tiles p (last + 2) (t .own) (length (p .file))

@@ -1,4 +1,4 @@
--- How the answers of this crate are read. Assumes nothing.
+-- The code's own notion: how the answers of this crate are read. Assumes nothing.
 use mathlib.Core.Path.{_≡_, refl}
 use mathlib.Core.Bool.{Bool, true, false}
 use Rattle.reads.specs.Answer.{Answer, accept, refuse}

@@ -27,8 +27,6 @@ pub struct Span {
     pub to: usize,
 }
 
-const UTF8: u32 = 0x2;
-
 const LITERALS: u32 = 0x178;
 
 const STRING: u8 = 8;
@@ -64,7 +62,7 @@ pub fn literal<'a>(file: &'a [u8], table: &'a [u32], n: u32) -> LiteralAnswer
 fn text_at(file: &[u8], major: u16, table: &[u32], slots: usize, n: usize) -> TextAnswer
     ensures { λ r. ⌜ Is readingText (textAt n (seen (now (file .entry)) major (now (table .entry)) slots)) r ⌝ }
 {
-    match handed::check_asked(file, major, table, slots, UTF8, n) {
+    match handed::check_asked(file, major, table, slots, pool::UTF8, n) {
         CheckAnswer::Refused(r) => {
             return TextAnswer::Refused(r);
         }
@@ -108,7 +106,7 @@ fn span_of(file: &[u8], major: u16, table: &[u32], slots: usize, n: usize) -> Sp
 fn span_at(file: &[u8], major: u16, table: &[u32], slots: usize, n: usize) -> Span
     ensures { λ r. ⌜ r ≡ spanIn (spanAt n (seen (now (file .entry)) major (now (table .entry)) slots)) ⌝ }
 {
-    match handed::check_asked(file, major, table, slots, UTF8, n) {
+    match handed::check_asked(file, major, table, slots, pool::UTF8, n) {
         CheckAnswer::Refused(_) => Span { from: 0, to: 0 },
         CheckAnswer::Fine => span_of(file, major, table, slots, n),
     }

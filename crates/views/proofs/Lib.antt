@@ -1,3 +1,2 @@
 mod Above
-pub mod Once
 mod Thin

@@ -180,7 +180,8 @@ module _ {M : Type 1} (𝓤 : URA M) (res : Slot 1) (τ : Ty) (Says : (κs : Lft
   module _ (H : Heap 𝓤) (A : Atoms 𝓤) (W : Given 𝓤 H A) where
     thin-walks : (C : Calls 𝓤 H) (Λ : Loops 𝓤 H) → FmC 𝓤 H (W .laws) C → Triple 𝓤 (C name) (Callee H A) → Typed → Gives
         → Walks 𝓤 H A ended stayed (WpFn 𝓤 H C Λ function) clauses
-    thin-walks C Λ fm known typed gives = walked 𝓤 H A ended stayed clauses (WpFn 𝓤 H C Λ function) (λ κs. (LL.vals (T.the-type (namedLft 1 0 tt κs)) (T′.the-laws (namedLft 1 0 tt κs)), (uint-vals w32, tt))) (λ κs. (LL.tells (T.the-type (namedLft 1 0 tt κs)) (T′.the-laws (namedLft 1 0 tt κs)), (uint-tells w32, tt)))
+    thin-walks C Λ fm known typed gives = walked 𝓤 H A ended stayed clauses (WpFn 𝓤 H C Λ function) (λ κs. (LL.vals (T.the-type (namedLft 1 0 tt κs)) (T′.the-laws (namedLft 1 0 tt κs)), (uint-vals w32, tt)))
+        (λ κs. (LL.tells (T.the-type (namedLft 1 0 tt κs)) (T′.the-laws (namedLft 1 0 tt κs)), (uint-tells w32, tt)))
         (λ κs qs bounds a g are. via 𝓤 _ (fst∗ 𝓤 _ (emp 𝓤)) (walk H A W (κs .0) (qs .0) (a .0) (a .1 .0) (are .1 .0 .1) gives C Λ fm known typed (LL.lawful (T.the-type (namedLft 1 0 tt κs)) (T′.the-laws (namedLft 1 0 tt κs)) 𝓤 H A W .typed (a .0) _ (are .0) .0)))
 
   pub thin-meets : (H : Heap 𝓤) (A : Atoms 𝓤) (W : Given 𝓤 H A) (𝓣 : Tables 𝓤 H)

@@ -6,22 +6,10 @@ use Rattle.ascii.proofs.Windows.{packed-eight, bytes-join}
 use Rattle.ascii.proofs.eight.Statement.{statement}
 use Rattle.ascii.proofs.eight.Tie as tie
 
-four-requires : tie.Need-four-requires
-four-requires c κs = search needs
-
-mul-result : tie.Need-mul-result
-mul-result c = search needs
-
-four-requires-2 : tie.Need-four-requires-2
-four-requires-2 c κs = search needs
-
-add-result : tie.Need-add-result
-add-result c = search needs
-
 returns : tie.Need-returns
 returns c =
     let h = packed-eight (c .before .before .before .args .s .now) (c .before .before .before .args .i) (c .before .before .before .args .j) (c .before .before .before .pre .0) in
     (omega arith, bytes-join _ _ (c .four2 .ensures .2) (c .before .four .ensures .2))
 
 pub eight-spec : {M : Type 1} → statement M
-eight-spec = tie.close (tie.spec four-requires mul-result four-requires-2 add-result returns)
+eight-spec = tie.close (tie.spec (λ c κs. search needs) (λ c. search needs) (λ c κs. search needs) (λ c. search needs) returns)

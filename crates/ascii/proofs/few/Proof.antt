@@ -15,20 +15,8 @@ abbrev μ-loop : tie.MeasureT-loop
 loop-holds : tie.Need-loop-holds Inv-loop μ-loop
 loop-holds c = begin (c .before .args .name) (c .before .args .s .now)
 
-shared-slice-read-is-fine-byte : tie.Need-shared-slice-read-is-fine-byte Inv-loop μ-loop
-shared-slice-read-is-fine-byte c = search needs
-
-is-fine-byte-requires : tie.Need-is-fine-byte-requires Inv-loop μ-loop
-is-fine-byte-requires c κs = search needs
-
 returns : tie.Need-returns Inv-loop μ-loop
 returns c = byte-stop _ _ _ _ (c .before .before .before .before .loop .inv) (c .before .before .before .loop-test .taken) (c .before .is-fine-byte .ensures) (c .if1 .taken)
-
-add-i : tie.Need-add-i Inv-loop μ-loop
-add-i c = search needs
-
-loop-less : tie.Need-loop-less Inv-loop μ-loop
-loop-less c = search needs
 
 loop-again : tie.Need-loop-again Inv-loop μ-loop
 loop-again c = byte-on _ _ _ _ (c .before .before .before .before .loop .inv) (c .before .before .before .loop-test .taken) (c .before .is-fine-byte .ensures) (c .if1 .left)
@@ -43,10 +31,10 @@ few-spec =
     Inv-loop
     μ-loop
     loop-holds
-    shared-slice-read-is-fine-byte
-    is-fine-byte-requires
+    (λ c. search needs)
+    (λ c κs. search needs)
     returns
-    add-i
-    loop-less
+    (λ c. search needs)
+    (λ c. search needs)
     loop-again
     returns-2)

@@ -5,11 +5,8 @@ use Rattle.ascii.proofs.Windows.{every-ascii}
 use Rattle.ascii.proofs.is_ascii.Statement.{statement}
 use Rattle.ascii.proofs.is_ascii.Tie as tie
 
-is-every-requires : tie.Need-is-every-requires
-is-every-requires c κs = search needs
-
 returns : tie.Need-returns
 returns c = c .is-every .ensures ∙ every-ascii _
 
 pub is-ascii-spec : {M : Type 1} → statement M
-is-ascii-spec = tie.close (tie.spec is-every-requires returns)
+is-ascii-spec = tie.close (tie.spec (λ c κs. search needs) returns)

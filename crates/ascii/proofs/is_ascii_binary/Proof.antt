@@ -8,23 +8,11 @@ use Rattle.ascii.proofs.is_ascii_binary.Tie as tie
 returns : tie.Need-returns
 returns c = empty-none _ (c .if1 .taken)
 
-sub-k : tie.Need-sub-k
-sub-k c = search needs
-
-shared-slice-read-if2 : tie.Need-shared-slice-read-if2
-shared-slice-read-if2 c = search needs
-
 returns-2 : tie.Need-returns-2
 returns-2 c = slash-last (c .before .before .before .before .args .s .now) (omega arith) (c .if2 .taken)
 
-chain-requires : tie.Need-chain-requires
-chain-requires c κs = search needs
-
 returns-3 : tie.Need-returns-3
 returns-3 c = name-last (c .before .before .before .before .before .before .args .s .now) _ (omega arith) (c .before .before .if2 .left) (c .chain .ensures)
-
-short-chain-requires : tie.Need-short-chain-requires
-short-chain-requires c κs = search needs
 
 returns-4 : tie.Need-returns-4
 returns-4 c = name-last (c .before .before .before .before .before .before .args .s .now) _ (omega arith) (c .before .before .if2 .left) (c .short-chain .ensures)
@@ -34,10 +22,10 @@ is-ascii-binary-spec =
     tie.close
     (tie.spec
     returns
-    sub-k
-    shared-slice-read-if2
+    (λ c. search needs)
+    (λ c. search needs)
     returns-2
-    chain-requires
+    (λ c κs. search needs)
     returns-3
-    short-chain-requires
+    (λ c κs. search needs)
     returns-4)

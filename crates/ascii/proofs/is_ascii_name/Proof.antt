@@ -5,9 +5,6 @@ use Rattle.ascii.proofs.Windows.{named, unnamed}
 use Rattle.ascii.proofs.is_ascii_name.Statement.{statement}
 use Rattle.ascii.proofs.is_ascii_name.Tie as tie
 
-is-every-requires : tie.Need-is-every-requires
-is-every-requires c κs = search needs
-
 returns : tie.Need-returns
 returns c = named _ _ (c .before .if1 .taken) (c .is-every .ensures)
 
@@ -15,4 +12,4 @@ returns-2 : tie.Need-returns-2
 returns-2 c = rw (le-ltb _ _ (c .if1 .left)) (unnamed _ (c .if1 .left))
 
 pub is-ascii-name-spec : {M : Type 1} → statement M
-is-ascii-name-spec = tie.close (tie.spec is-every-requires returns returns-2)
+is-ascii-name-spec = tie.close (tie.spec (λ c κs. search needs) returns returns-2)

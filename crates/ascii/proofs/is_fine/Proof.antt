@@ -4,14 +4,8 @@ use borrow.Author.Tests.{not-true, not-false}
 use Rattle.ascii.proofs.is_fine.Statement.{statement}
 use Rattle.ascii.proofs.is_fine.Tie as tie
 
-is-plain-requires : tie.Need-is-plain-requires
-is-plain-requires c κs = search needs
-
 returns : tie.Need-returns
 returns c = simp (← c .before .is-plain .ensures, not-true (c .before .is-plain .result) (c .if1 .taken))
-
-is-unmarked-requires : tie.Need-is-unmarked-requires
-is-unmarked-requires c κs = search needs
 
 returns-2 : tie.Need-returns-2
 returns-2 c = simp (← c .before .before .before .is-plain .ensures, not-false (c .before .before .before .is-plain .result) (c .before .before .if1 .left), c .before .if2 .taken, ← c .is-unmarked .ensures)
@@ -21,4 +15,4 @@ returns-3 c = simp (← c .before .before .is-plain .ensures, not-false (c .befo
 
 pub is-fine-spec : {M : Type 1} → statement M
 is-fine-spec =
-    tie.close (tie.spec is-plain-requires returns is-unmarked-requires returns-2 returns-3)
+    tie.close (tie.spec (λ c κs. search needs) returns (λ c κs. search needs) returns-2 returns-3)

@@ -3,11 +3,8 @@ use borrow.Author.Needs.{needs}
 use Rattle.ascii.proofs.is_plain.Statement.{statement}
 use Rattle.ascii.proofs.is_plain.Tie as tie
 
-lacks-requires : tie.Need-lacks-requires
-lacks-requires c κs = search needs
-
 returns : tie.Need-returns
 returns c = simp (← c .lacks .ensures)
 
 pub is-plain-spec : {M : Type 1} → statement M
-is-plain-spec = tie.close (tie.spec lacks-requires returns)
+is-plain-spec = tie.close (tie.spec (λ c κs. search needs) returns)

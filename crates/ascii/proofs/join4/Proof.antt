@@ -6,24 +6,6 @@ use Rattle.ascii.specs.Ascii.{packed, bytes}
 use Rattle.ascii.proofs.join4.Statement.{statement}
 use Rattle.ascii.proofs.join4.Tie as tie
 
-mul-result : tie.Need-mul-result
-mul-result c = search needs
-
-add-result : tie.Need-add-result
-add-result c = search needs
-
-mul-result-2 : tie.Need-mul-result-2
-mul-result-2 c = search needs
-
-add-result-2 : tie.Need-add-result-2
-add-result-2 c = search needs
-
-mul-result-3 : tie.Need-mul-result-3
-mul-result-3 c = search needs
-
-add-result-3 : tie.Need-add-result-3
-add-result-3 c = search needs
-
 returns : tie.Need-returns
 unfolding packed bytes
 returns c = (omega arith, omega arith, simp (lt-ltb (c .args .a) 256 (omega arith), lt-ltb (c .args .b) 256 (omega arith), lt-ltb (c .args .c) 256 (omega arith), lt-ltb (c .args .d) 256 (omega arith)))
@@ -31,4 +13,4 @@ returns c = (omega arith, omega arith, simp (lt-ltb (c .args .a) 256 (omega arit
 pub join4-spec : {M : Type 1} → statement M
 join4-spec =
     tie.close
-    (tie.spec mul-result add-result mul-result-2 add-result-2 mul-result-3 add-result-3 returns)
+    (tie.spec (λ c. search needs) (λ c. search needs) (λ c. search needs) (λ c. search needs) (λ c. search needs) (λ c. search needs) returns)

@@ -13,41 +13,17 @@ Inv-loop s j₀ j = Chained s j
 abbrev μ-loop : tie.MeasureT-loop
 μ-loop s j₀ j = length s - j
 
-shared-slice-read-is-linked1 : tie.Need-shared-slice-read-is-linked1 Inv-loop μ-loop
-shared-slice-read-is-linked1 c = search needs
-
-is-linked1-requires : tie.Need-is-linked1-requires Inv-loop μ-loop
-is-linked1-requires c κs = search needs
-
 returns : tie.Need-returns Inv-loop μ-loop
 returns c = (omega arith, linked-none)
 
 loop-holds : tie.Need-loop-holds Inv-loop μ-loop
 loop-holds c = begin (c .before .before .before .before .args .s .now) _ (omega arith) (c .before .is-linked1 .ensures) (c .if1 .left)
 
-sub-loop : tie.Need-sub-loop Inv-loop μ-loop
-sub-loop c = search needs
-
-link-requires : tie.Need-link-requires Inv-loop μ-loop
-link-requires c κs = search needs
-
-add-result : tie.Need-add-result Inv-loop μ-loop
-add-result c = search needs
-
 returns-2 : tie.Need-returns-2 Inv-loop μ-loop
 returns-2 c = c .before .before .before .loop .inv
 
-add-j : tie.Need-add-j Inv-loop μ-loop
-add-j c = search needs
-
-loop-less : tie.Need-loop-less Inv-loop μ-loop
-loop-less c = search needs
-
 loop-again : tie.Need-loop-again Inv-loop μ-loop
 loop-again c = on _ _ _ (c .before .before .before .loop .inv) 8 (c .before .before .loop-test .taken) (c .before .link .ensures) (c .if2 .left)
-
-add-result-2 : tie.Need-add-result-2 Inv-loop μ-loop
-add-result-2 c = search needs
 
 returns-3 : tie.Need-returns-3 Inv-loop μ-loop
 returns-3 c = c .before .loop .inv
@@ -58,16 +34,16 @@ links-spec =
     (tie.spec
     Inv-loop
     μ-loop
-    shared-slice-read-is-linked1
-    is-linked1-requires
+    (λ c. search needs)
+    (λ c κs. search needs)
     returns
     loop-holds
-    sub-loop
-    link-requires
-    add-result
+    (λ c. search needs)
+    (λ c κs. search needs)
+    (λ c. search needs)
     returns-2
-    add-j
-    loop-less
+    (λ c. search needs)
+    (λ c. search needs)
     loop-again
-    add-result-2
+    (λ c. search needs)
     returns-3)

@@ -18,40 +18,17 @@ abbrev μ-loop : tie.MeasureT-loop
 loop-holds : tie.Need-loop-holds Inv-loop μ-loop
 loop-holds c = begin (c .before .args .name) (c .before .args .s .now)
 
-sub-loop : tie.Need-sub-loop Inv-loop μ-loop
-sub-loop c = search needs
-
-add-stretch : tie.Need-add-stretch Inv-loop μ-loop
-add-stretch c = search needs
-
-stretch-requires : tie.Need-stretch-requires Inv-loop μ-loop
-stretch-requires c κs = search needs
-
 returns : tie.Need-returns Inv-loop μ-loop
 returns c = eight-stop _ _ _ _ (c .before .before .before .loop .inv) (c .before .stretch .ensures) (c .if1 .taken)
-
-add-i : tie.Need-add-i Inv-loop μ-loop
-add-i c = search needs
-
-loop-less : tie.Need-loop-less Inv-loop μ-loop
-loop-less c = search needs
 
 loop-again : tie.Need-loop-again Inv-loop μ-loop
 loop-again c = eight-on _ _ _ _ (c .before .before .before .loop .inv) (c .before .before .loop-test .taken) (c .before .stretch .ensures) (c .if1 .left)
 
-sub-k : tie.Need-sub-k Inv-loop μ-loop
-sub-k c = search needs
-
-add-stretch-2 : tie.Need-add-stretch-2 Inv-loop μ-loop
-add-stretch-2 c = search needs
-
-stretch-requires-2 : tie.Need-stretch-requires-2 Inv-loop μ-loop
-stretch-requires-2 c κs = search needs
-
 returns-2 : tie.Need-returns-2 Inv-loop μ-loop
 returns-2 c =
     c .stretch2 .ensures
-    ∙ last-eight (every (c .before .before .before .before .args .name)) (every-join (c .before .before .before .before .args .name)) (c .before .before .before .before .args .s .now) (c .before .before .loop .i) (length (c .before .before .before .before .args .s .now) - 8) (c .before .before .loop .inv .1) (omega arith) (omega arith)
+    ∙ last-eight (every (c .before .before .before .before .args .name)) (every-join (c .before .before .before .before .args .name)) (c .before .before .before .before .args .s .now) (c .before .before .loop .i) (length (c .before .before .before .before .args .s .now) - 8)
+    (c .before .before .loop .inv .1) (omega arith) (omega arith)
 
 pub long-spec : {M : Type 1} → statement M
 long-spec =
@@ -60,14 +37,14 @@ long-spec =
     Inv-loop
     μ-loop
     loop-holds
-    sub-loop
-    add-stretch
-    stretch-requires
+    (λ c. search needs)
+    (λ c. search needs)
+    (λ c κs. search needs)
     returns
-    add-i
-    loop-less
+    (λ c. search needs)
+    (λ c. search needs)
     loop-again
-    sub-k
-    add-stretch-2
-    stretch-requires-2
+    (λ c. search needs)
+    (λ c. search needs)
+    (λ c κs. search needs)
     returns-2)

@@ -9,14 +9,8 @@ use Rattle.ascii.proofs.Windows.{every-join, both-fours}
 use Rattle.ascii.proofs.middling.Statement.{statement}
 use Rattle.ascii.proofs.middling.Tie as tie
 
-sub-k : tie.Need-sub-k
-sub-k c = search needs
-
-stretch-requires : tie.Need-stretch-requires
-stretch-requires c κs = search needs
-
 returns : tie.Need-returns
 returns c = c .stretch .ensures ∙ both-fours (every (c .before .before .args .name)) (every-join (c .before .before .args .name)) (c .before .before .args .s .now) (length (c .before .before .args .s .now) - 4) (omega arith) (omega arith)
 
 pub middling-spec : {M : Type 1} → statement M
-middling-spec = tie.close (tie.spec sub-k stretch-requires returns)
+middling-spec = tie.close (tie.spec (λ c. search needs) (λ c κs. search needs) returns)

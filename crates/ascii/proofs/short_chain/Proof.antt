@@ -14,44 +14,23 @@ Inv-loop s j₀ j = Chained s j
 abbrev μ-loop : tie.MeasureT-loop
 μ-loop s j₀ j = length s - j
 
-shared-slice-read-is-linked1 : tie.Need-shared-slice-read-is-linked1 Inv-loop μ-loop
-shared-slice-read-is-linked1 c = search needs
-
-is-linked1-requires : tie.Need-is-linked1-requires Inv-loop μ-loop
-is-linked1-requires c κs = search needs
-
 returns : tie.Need-returns Inv-loop μ-loop
 returns c = first-stop (c .before .before .before .before .args .s .now) _ (omega arith) (c .before .is-linked1 .ensures) (c .if1 .taken)
 
 loop-holds : tie.Need-loop-holds Inv-loop μ-loop
 loop-holds c = begin (c .before .before .before .before .args .s .now) _ (omega arith) (c .before .is-linked1 .ensures) (c .if1 .left)
 
-sub-loop : tie.Need-sub-loop Inv-loop μ-loop
-sub-loop c = search needs
-
-shared-slice-read-is-linked1-2 : tie.Need-shared-slice-read-is-linked1-2 Inv-loop μ-loop
-shared-slice-read-is-linked1-2 c = search needs
-
-add-is-linked1 : tie.Need-add-is-linked1 Inv-loop μ-loop
-add-is-linked1 c = search needs
-
-shared-slice-read-is-linked1-3 : tie.Need-shared-slice-read-is-linked1-3 Inv-loop μ-loop
-shared-slice-read-is-linked1-3 c = search needs
-
-is-linked1-requires-2 : tie.Need-is-linked1-requires-2 Inv-loop μ-loop
-is-linked1-requires-2 c κs = search needs
-
 returns-2 : tie.Need-returns-2 Inv-loop μ-loop
-returns-2 c = off _ _ _ (c .before .before .before .before .before .loop .inv) 1 (c .before .is-linked12 .ensures ∙ pair-at (c .before .before .before .before .before .before .before .before .before .before .args .s .now) (c .before .before .before .before .before .loop .j) (omega arith)) (c .if2 .taken)
-
-add-j : tie.Need-add-j Inv-loop μ-loop
-add-j c = search needs
-
-loop-less : tie.Need-loop-less Inv-loop μ-loop
-loop-less c = search needs
+returns-2 c =
+    let p5 = c .before .before .before .before .before in
+    let p10 = p5 .before .before .before .before .before in
+    off _ _ _ (p5 .loop .inv) 1 (c .before .is-linked12 .ensures ∙ pair-at (p10 .args .s .now) (p5 .loop .j) (omega arith)) (c .if2 .taken)
 
 loop-again : tie.Need-loop-again Inv-loop μ-loop
-loop-again c = on _ _ _ (c .before .before .before .before .before .loop .inv) 1 (c .before .before .before .before .loop-test .taken) (c .before .is-linked12 .ensures ∙ pair-at (c .before .before .before .before .before .before .before .before .before .before .args .s .now) (c .before .before .before .before .before .loop .j) (omega arith)) (c .if2 .left)
+loop-again c =
+    let p5 = c .before .before .before .before .before in
+    let p10 = p5 .before .before .before .before .before in
+    on _ _ _ (p5 .loop .inv) 1 (c .before .before .before .before .loop-test .taken) (c .before .is-linked12 .ensures ∙ pair-at (p10 .args .s .now) (p5 .loop .j) (omega arith)) (c .if2 .left)
 
 returns-3 : tie.Need-returns-3 Inv-loop μ-loop
 returns-3 c = all-linked _ _ (c .before .loop .inv) (c .loop-test .left)
@@ -62,17 +41,17 @@ short-chain-spec =
     (tie.spec
     Inv-loop
     μ-loop
-    shared-slice-read-is-linked1
-    is-linked1-requires
+    (λ c. search needs)
+    (λ c κs. search needs)
     returns
     loop-holds
-    sub-loop
-    shared-slice-read-is-linked1-2
-    add-is-linked1
-    shared-slice-read-is-linked1-3
-    is-linked1-requires-2
+    (λ c. search needs)
+    (λ c. search needs)
+    (λ c. search needs)
+    (λ c. search needs)
+    (λ c κs. search needs)
     returns-2
-    add-j
-    loop-less
+    (λ c. search needs)
+    (λ c. search needs)
     loop-again
     returns-3)

@@ -9,12 +9,6 @@ use Rattle.ascii.proofs.Windows.{fours-long}
 use Rattle.ascii.proofs.stretch.Statement.{statement}
 use Rattle.ascii.proofs.stretch.Tie as tie
 
-eight-requires : tie.Need-eight-requires
-eight-requires c κs = search needs
-
-is-fine-requires : tie.Need-is-fine-requires
-is-fine-requires c κs = search needs
-
 returns : tie.Need-returns
 returns c =
     c .is-fine .ensures
@@ -22,4 +16,4 @@ returns c =
     ∙ every-eight _ _ (fours-long _ _ _ (c .before .before .before .pre .0) (c .before .before .before .pre .1)) (c .before .eight .ensures .1)
 
 pub stretch-spec : {M : Type 1} → statement M
-stretch-spec = tie.close (tie.spec eight-requires is-fine-requires returns)
+stretch-spec = tie.close (tie.spec (λ c κs. search needs) (λ c κs. search needs) returns)

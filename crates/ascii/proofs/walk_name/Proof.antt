@@ -9,21 +9,6 @@ use Rattle.text.proofs.Runs.{part}
 use Rattle.ascii.proofs.walk_name.Statement.{statement}
 use Rattle.ascii.proofs.walk_name.Tie as tie
 
-head-requires : tie.Need-head-requires
-head-requires c κs = search needs
-
-sub-walk-name : tie.Need-sub-walk-name
-sub-walk-name c = search needs
-
-part-walk-name-start : tie.Need-part-walk-name-start
-part-walk-name-start c = search needs
-
-part-walk-name-end : tie.Need-part-walk-name-end
-part-walk-name-end c = search needs
-
-walk-name-requires : tie.Need-walk-name-requires
-walk-name-requires c κs = search needs
-
 add-t7 : tie.Need-add-t7
 add-t7 c =
     let h = rw part at (c .walk-name .ensures .0) in
@@ -39,10 +24,10 @@ pub walk-name-spec : {M : Type 1} → statement M
 walk-name-spec =
     tie.close
     (tie.spec
-    head-requires
-    sub-walk-name
-    part-walk-name-start
-    part-walk-name-end
-    walk-name-requires
+    (λ c κs. search needs)
+    (λ c. search needs)
+    (λ c. search needs)
+    (λ c. search needs)
+    (λ c κs. search needs)
     add-t7
     returns)

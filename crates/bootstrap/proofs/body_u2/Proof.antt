@@ -6,9 +6,6 @@ use borrow.Author.Tests.{le-leb, lt-leb}
 use borrow.Author.Needs.{needs}
 use Rattle.bootstrap.proofs.body_u2.Statement.{statement}
 use Rattle.bootstrap.proofs.body_u2.Tie as tie
-use Rattle.bootstrap.proofs.body_u2.Reads as reads
-use Rattle.bootstrap.proofs.body_u2.Lts as lts
-use Rattle.reads.proofs.pair_at.Reads as pair-at-reads
 
 returns : tie.Need-returns
 unfolding bodyU2
@@ -18,12 +15,9 @@ returns-2 : tie.Need-returns-2
 unfolding bodyU2
 returns-2 c = simp (lt-leb (c .before .before .before .before .args .i + 2) (c .before .before .before .before .args .end) (omega arith))
 
-pair-at-requires : tie.Need-pair-at-requires
-pair-at-requires c κs = search needs
-
 returns-3 : tie.Need-returns-3
 unfolding bodyU2
 returns-3 c = simp (c .pair-at .ensures, le-leb (c .before .before .before .before .before .args .i + 2) (c .before .before .before .before .before .args .end) (omega arith))
 
 pub body-u2-spec : {M : Type 1} → statement M
-body-u2-spec = tie.close (tie.spec returns returns-2 pair-at-requires returns-3)
+body-u2-spec = tie.close (tie.spec returns returns-2 (λ c κs. search needs) returns-3)

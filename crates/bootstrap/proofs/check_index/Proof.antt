@@ -4,23 +4,6 @@ use Rattle.bootstrap.specs.Indices.{judged}
 use borrow.Author.Tests.{eq-eqb, le-ltb, lt-ltb, ne-eqb}
 use Rattle.bootstrap.proofs.check_index.Statement.{statement}
 use Rattle.bootstrap.proofs.check_index.Tie as tie
-use Rattle.bootstrap.proofs.check_index.Reads as reads
-use Rattle.bootstrap.proofs.check_index.Lts as lts
-use Rattle.bootstrap.proofs.is_dynamic.Reads as is-dynamic-reads
-use Rattle.slot.proofs.field_of.Reads as field-of-reads
-use Rattle.slot.proofs.tag_of.Reads as tag-of-reads
-
-tag-of-requires : tie.Need-tag-of-requires
-tag-of-requires c κs = search needs
-
-is-dynamic-requires : tie.Need-is-dynamic-requires
-is-dynamic-requires c κs = search needs
-
-field-of-requires : tie.Need-field-of-requires
-field-of-requires c κs = search needs
-
-cast-i : tie.Need-cast-i
-cast-i c = search needs
 
 returns : tie.Need-returns
 unfolding judged
@@ -28,11 +11,19 @@ returns c = simp (← c .before .before .before .before .before .tag-of .ensures
 
 returns-2 : tie.Need-returns-2
 unfolding judged
-returns-2 c = simp (← c .before .before .before .before .before .before .before .tag-of .ensures, ← c .before .before .before .before .before .before .is-dynamic .ensures, c .before .before .before .before .before .if1 .taken, ← c .before .before .before .before .field-of .ensures, lt-ltb _ _ (c .before .before .if2 .left), ne-eqb _ _ (c .if3 .taken))
+returns-2 c =
+    let p5 = c .before .before .before .before .before in
+    let p6 = p5 .before in
+    let p7 = p6 .before in
+    simp (← p7 .tag-of .ensures, ← p6 .is-dynamic .ensures, p5 .if1 .taken, ← c .before .before .before .before .field-of .ensures, lt-ltb _ _ (c .before .before .if2 .left), ne-eqb _ _ (c .if3 .taken))
 
 returns-3 : tie.Need-returns-3
 unfolding judged
-returns-3 c = simp (← c .before .before .before .before .before .before .before .tag-of .ensures, ← c .before .before .before .before .before .before .is-dynamic .ensures, c .before .before .before .before .before .if1 .taken, ← c .before .before .before .before .field-of .ensures, lt-ltb _ _ (c .before .before .if2 .left), eq-eqb _ _ (c .if3 .left))
+returns-3 c =
+    let p5 = c .before .before .before .before .before in
+    let p6 = p5 .before in
+    let p7 = p6 .before in
+    simp (← p7 .tag-of .ensures, ← p6 .is-dynamic .ensures, p5 .if1 .taken, ← c .before .before .before .before .field-of .ensures, lt-ltb _ _ (c .before .before .if2 .left), eq-eqb _ _ (c .if3 .left))
 
 returns-4 : tie.Need-returns-4
 unfolding judged
@@ -42,10 +33,10 @@ pub check-index-spec : {M : Type 1} → statement M
 check-index-spec =
     tie.close
     (tie.spec
-    tag-of-requires
-    is-dynamic-requires
-    field-of-requires
-    cast-i
+    (λ c κs. search needs)
+    (λ c κs. search needs)
+    (λ c κs. search needs)
+    (λ c. search needs)
     returns
     returns-2
     returns-3

@@ -7,81 +7,51 @@ use borrow.Author.Needs.{needs}
 use Rattle.bootstrap.specs.Bootstrap.{indexAt}
 use Rattle.bootstrap.proofs.index_at.Statement.{statement}
 use Rattle.bootstrap.proofs.index_at.Tie as tie
-use Rattle.bootstrap.proofs.index_at.Reads as reads
-use Rattle.bootstrap.proofs.index_at.Lts as lts
-use Rattle.bootstrap.proofs.body_u2.Reads as body-u2-reads
-use Rattle.bootstrap.proofs.check_range.Reads as check-range-reads
-use Rattle.slot.proofs.check_kind.Reads as check-kind-reads
-
-body-u2-requires : tie.Need-body-u2-requires
-body-u2-requires c κs = search needs
-
-enum-known-r : tie.Need-enum-known-r
-enum-known-r c = search needs
 
 returns : tie.Need-returns
 unfolding indexAt
 returns c = simp (← c .before .before .before .body-u2 .ensures, c .before .r .given .1)
 
-enum-known-v : tie.Need-enum-known-v
-enum-known-v c = search needs
-
-cast-check-range : tie.Need-cast-check-range
-cast-check-range c = search needs
-
-check-range-requires : tie.Need-check-range-requires
-check-range-requires c κs = search needs
-
-enum-known-r-2 : tie.Need-enum-known-r-2
-enum-known-r-2 c = search needs
-
 returns-2 : tie.Need-returns-2
 unfolding indexAt
 returns-2 c = simp (← c .before .before .before .before .before .before .before .body-u2 .ensures, c .before .before .before .before .before .v .given .1, ← c .before .before .before .check-range .ensures, c .before .r2 .given .1)
-
-enum-told : tie.Need-enum-told
-enum-told c = search needs
-
-cast-check-kind : tie.Need-cast-check-kind
-cast-check-kind c = search needs
-
-check-kind-requires : tie.Need-check-kind-requires
-check-kind-requires c κs = search needs
-
-enum-known-r-3 : tie.Need-enum-known-r-3
-enum-known-r-3 c = search needs
-
-enum-told-2 : tie.Need-enum-told-2
-enum-told-2 c = search needs
 
 add-t20 : tie.Need-add-t20
 add-t20 c = omega (arith, body-in _ _ _ _ _ (got reading2 (c .before .before .before .before .before .before .before .v .given .1) (c .before .before .before .before .before .before .before .before .before .body-u2 .ensures)))
 
 returns-3 : tie.Need-returns-3
 unfolding indexAt
-returns-3 c = simp (← c .before .before .before .before .before .before .before .before .before .before .body-u2 .ensures, c .before .before .before .before .before .before .before .before .v .given .1, ← c .before .before .before .before .before .before .check-range .ensures, c .before .before .before .before .enum-told .given .1, ← c .before .before .before .check-kind .ensures, c .before .r3 .given .1)
+returns-3 c =
+    let p6 = c .before .before .before .before .before .before in
+    let p8 = p6 .before .before in
+    let p10 = p8 .before .before in
+    simp (← p10 .body-u2 .ensures, p8 .v .given .1, ← p6 .check-range .ensures, c .before .before .before .before .enum-told .given .1, ← c .before .before .before .check-kind .ensures, c .before .r3 .given .1)
 
 returns-4 : tie.Need-returns-4
 unfolding indexAt
-returns-4 c = simp (← c .before .before .before .before .before .before .before .before .before .body-u2 .ensures, c .before .before .before .before .before .before .before .v .given .1, ← c .before .before .before .before .before .check-range .ensures, c .before .before .before .enum-told .given .1, ← c .before .before .check-kind .ensures, c .enum-told2 .given .1)
+returns-4 c =
+    let p5 = c .before .before .before .before .before in
+    let p7 = p5 .before .before in
+    let p9 = p7 .before .before in
+    simp (← p9 .body-u2 .ensures, p7 .v .given .1, ← p5 .check-range .ensures, c .before .before .before .enum-told .given .1, ← c .before .before .check-kind .ensures, c .enum-told2 .given .1)
 
 pub index-at-spec : {M : Type 1} → statement M
 index-at-spec =
     tie.close
     (tie.spec
-    body-u2-requires
-    enum-known-r
+    (λ c κs. search needs)
+    (λ c. search needs)
     returns
-    enum-known-v
-    cast-check-range
-    check-range-requires
-    enum-known-r-2
+    (λ c. search needs)
+    (λ c. search needs)
+    (λ c κs. search needs)
+    (λ c. search needs)
     returns-2
-    enum-told
-    cast-check-kind
-    check-kind-requires
-    enum-known-r-3
-    enum-told-2
+    (λ c. search needs)
+    (λ c. search needs)
+    (λ c κs. search needs)
+    (λ c. search needs)
+    (λ c. search needs)
     add-t20
     returns-3
     returns-4)

@@ -3,8 +3,6 @@ use Rattle.bootstrap.specs.Indices.{dynamic}
 use borrow.Author.Tests.{eq-eqb, ne-eqb}
 use Rattle.bootstrap.proofs.is_dynamic.Statement.{statement}
 use Rattle.bootstrap.proofs.is_dynamic.Tie as tie
-use Rattle.bootstrap.proofs.is_dynamic.Reads as reads
-use Rattle.bootstrap.proofs.is_dynamic.Lts as lts
 
 returns : tie.Need-returns
 unfolding dynamic

@@ -9,9 +9,6 @@ use Rattle.bootstrap.specs.Bootstrap.{methodAt, steps}
 use Rattle.bootstrap.proofs.Bodies.{steps-go, steps-stop, steps-done}
 use Rattle.bootstrap.proofs.methods.Statement.{statement}
 use Rattle.bootstrap.proofs.methods.Tie as tie
-use Rattle.bootstrap.proofs.methods.Reads as reads
-use Rattle.bootstrap.proofs.methods.Lts as lts
-use Rattle.bootstrap.proofs.method_at.Reads as method-at-reads
 
 abbrev Inv-loop : tie.InvT-loop
 Inv-loop file major table slots at end count start i₀ left₀ i left = steps (methodAt (seen file major table slots) at end) left i ≡ steps (methodAt (seen file major table slots) at end) count start
@@ -22,23 +19,8 @@ abbrev μ-loop : tie.MeasureT-loop
 loop-holds : tie.Need-loop-holds Inv-loop μ-loop
 loop-holds c = refl
 
-method-at-requires : tie.Need-method-at-requires Inv-loop μ-loop
-method-at-requires c κs = search needs
-
-enum-known-r : tie.Need-enum-known-r Inv-loop μ-loop
-enum-known-r c = search needs
-
 returns : tie.Need-returns Inv-loop μ-loop
 returns c = steps-stop _ _ _ _ _ (c .before .before .before .before .loop-test .taken) (got readingNext (c .before .r .given .1) (c .before .before .before .method-at .ensures)) ∙ c .before .before .before .before .before .loop .inv
-
-enum-known-next : tie.Need-enum-known-next Inv-loop μ-loop
-enum-known-next c = search needs
-
-sub-left : tie.Need-sub-left Inv-loop μ-loop
-sub-left c = search needs
-
-loop-less : tie.Need-loop-less Inv-loop μ-loop
-loop-less c = search needs
 
 loop-again : tie.Need-loop-again Inv-loop μ-loop
 loop-again c = steps-go _ _ _ _ (c .before .before .before .before .loop-test .taken) (got readingNext (c .before .next .given .1) (c .before .before .before .method-at .ensures)) ∙ c .before .before .before .before .before .loop .inv
@@ -53,11 +35,11 @@ methods-spec =
     Inv-loop
     μ-loop
     loop-holds
-    method-at-requires
-    enum-known-r
+    (λ c κs. search needs)
+    (λ c. search needs)
     returns
-    enum-known-next
-    sub-left
-    loop-less
+    (λ c. search needs)
+    (λ c. search needs)
+    (λ c. search needs)
     loop-again
     returns-2)

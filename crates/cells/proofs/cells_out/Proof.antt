@@ -7,12 +7,6 @@ use lib.Seq.{length-take-le}
 use Rattle.cells.proofs.Cells.{all-fit}
 use Rattle.cells.proofs.cells_out.Statement.{statement}
 use Rattle.cells.proofs.cells_out.Tie as tie
-use Rattle.cells.proofs.cells_out.Reads as reads
-use Rattle.cells.proofs.cells_out.Lts as lts
-use Rattle.cells.proofs.put_cells.Reads as put-cells-reads
-
-put-cells-requires : tie.Need-put-cells-requires
-put-cells-requires c κs = search needs
 
 slice-aggregate-put-cells : tie.Need-slice-aggregate-put-cells
 slice-aggregate-put-cells c = sym (length-take-le _ _ (omega (arith, c .before .if1 .left)))
@@ -20,26 +14,17 @@ slice-aggregate-put-cells c = sym (length-take-le _ _ (omega (arith, c .before .
 put-cells-requires-2 : tie.Need-put-cells-requires-2
 put-cells-requires-2 c κs = simp length-take (omega arith)
 
-same-length : tie.Need-same-length
-same-length c = search needs
-
 returns : tie.Need-returns
 returns c = c .before .before .put-cells .ensures ∙ all-fit _ _ _ (c .before .before .before .before .if1 .taken)
-
-same-length-2 : tie.Need-same-length-2
-same-length-2 c = search needs
-
-returns-2 : tie.Need-returns-2
-returns-2 c = search needs
 
 pub cells-out-spec : {M : Type 1} → statement M
 cells-out-spec =
     tie.close
     (tie.spec
-    put-cells-requires
+    (λ c κs. search needs)
     slice-aggregate-put-cells
     put-cells-requires-2
-    same-length
+    (λ c. search needs)
     returns
-    same-length-2
-    returns-2)
+    (λ c. search needs)
+    (λ c. search needs))

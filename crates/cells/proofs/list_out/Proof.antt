@@ -7,12 +7,6 @@ use lib.Seq.{length-take-le}
 use Rattle.cells.proofs.Cells.{all-fit}
 use Rattle.cells.proofs.list_out.Statement.{statement}
 use Rattle.cells.proofs.list_out.Tie as tie
-use Rattle.cells.proofs.list_out.Reads as reads
-use Rattle.cells.proofs.list_out.Lts as lts
-use Rattle.cells.proofs.put_list.Reads as put-list-reads
-
-put-list-requires : tie.Need-put-list-requires
-put-list-requires c κs = search needs
 
 slice-aggregate-put-list : tie.Need-slice-aggregate-put-list
 slice-aggregate-put-list c = sym (length-take-le _ _ (omega (arith, c .before .if1 .left)))
@@ -20,26 +14,17 @@ slice-aggregate-put-list c = sym (length-take-le _ _ (omega (arith, c .before .i
 put-list-requires-2 : tie.Need-put-list-requires-2
 put-list-requires-2 c κs = simp length-take (omega arith)
 
-same-length : tie.Need-same-length
-same-length c = search needs
-
 returns : tie.Need-returns
 returns c = c .before .before .put-list .ensures ∙ all-fit _ _ _ (c .before .before .before .before .if1 .taken)
-
-same-length-2 : tie.Need-same-length-2
-same-length-2 c = search needs
-
-returns-2 : tie.Need-returns-2
-returns-2 c = search needs
 
 pub list-out-spec : {M : Type 1} → statement M
 list-out-spec =
     tie.close
     (tie.spec
-    put-list-requires
+    (λ c κs. search needs)
     slice-aggregate-put-list
     put-list-requires-2
-    same-length
+    (λ c. search needs)
     returns
-    same-length-2
-    returns-2)
+    (λ c. search needs)
+    (λ c. search needs))

@@ -173,7 +173,8 @@ reaches-returns-3 : (t : ℕ) → reaches-lts.Need-returns-3 (
   leads-below t,
   leads.Post,
 ) (reaches-at t) reaches.Post
-reaches-returns-3 t c = c .leads2 .ensures ∙ simp (c .before .before .before .row-of .ensures, c .before .before .before .before .tag-of .ensures) (by-other _ _ _ _ (c .before .before .before .before .before .if1 .left) (simp (c .before .before .before .row-of .ensures, c .before .before .before .before .tag-of .ensures, c .before .if2 .left) at (c .before .before .leads .ensures)))
+reaches-returns-3 t c = c .leads2 .ensures ∙ simp (c .before .before .before .row-of .ensures, c .before .before .before .before .tag-of .ensures)
+    (by-other _ _ _ _ (c .before .before .before .before .before .if1 .left) (simp (c .before .before .before .row-of .ensures, c .before .before .before .before .tag-of .ensures, c .before .if2 .left) at (c .before .before .leads .ensures)))
 
 pub +leads+reaches-spec : {M : Type 1} → statement M
 +leads+reaches-spec = close μ-leads μ-reaches (λ t. leads-lts.spec (

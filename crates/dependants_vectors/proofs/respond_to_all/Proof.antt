@@ -5,11 +5,6 @@ use Prim.Native.Nat.{_-_}
 use lib.ListN.{length}
 use Rattle.dependants_vectors.proofs.respond_to_all.Statement.{statement}
 use Rattle.dependants_vectors.proofs.respond_to_all.Tie as tie
-use Rattle.dependants_vectors.proofs.respond_to_all.Reads as reads
-use Rattle.dependants_vectors.proofs.respond_to_all.Lts as lts
-use Rattle.dependants_vectors.proofs.respond.Reads as respond-reads
-use Rattle.script.proofs.line.Reads as line-reads
-use Rattle.script.proofs.next_line.Reads as next-line-reads
 
 abbrev Inv-loop : tie.InvT-loop
 Inv-loop input space₀ table₀ list₀ at₀ space table list at = (length space ≡ length space₀) × (length table ≡ length table₀) × (length list ≡ length list₀)
@@ -17,49 +12,19 @@ Inv-loop input space₀ table₀ list₀ at₀ space table list at = (length spa
 abbrev μ-loop : tie.MeasureT-loop
 μ-loop input space₀ table₀ list₀ at₀ space table list at = length input - at
 
-loop-holds : tie.Need-loop-holds Inv-loop μ-loop
-loop-holds c = search needs
-
-line-requires : tie.Need-line-requires Inv-loop μ-loop
-line-requires c κs = search needs
-
-respond-requires : tie.Need-respond-requires Inv-loop μ-loop
-respond-requires c κs = search needs
-
-next-line-requires : tie.Need-next-line-requires Inv-loop μ-loop
-next-line-requires c κs = search needs
-
-loop-less : tie.Need-loop-less Inv-loop μ-loop
-loop-less c = search needs
-
-loop-again : tie.Need-loop-again Inv-loop μ-loop
-loop-again c = search needs
-
-same-length : tie.Need-same-length Inv-loop μ-loop
-same-length c = search needs
-
-same-length-2 : tie.Need-same-length-2 Inv-loop μ-loop
-same-length-2 c = search needs
-
-same-length-3 : tie.Need-same-length-3 Inv-loop μ-loop
-same-length-3 c = search needs
-
-returns : tie.Need-returns Inv-loop μ-loop
-returns c = search needs
-
 pub respond-to-all-spec : {M : Type 1} → statement M
 respond-to-all-spec =
     tie.close
     (tie.spec
     Inv-loop
     μ-loop
-    loop-holds
-    line-requires
-    respond-requires
-    next-line-requires
-    loop-less
-    loop-again
-    same-length
-    same-length-2
-    same-length-3
-    returns)
+    (λ c. search needs)
+    (λ c κs. search needs)
+    (λ c κs. search needs)
+    (λ c κs. search needs)
+    (λ c. search needs)
+    (λ c. search needs)
+    (λ c. search needs)
+    (λ c. search needs)
+    (λ c. search needs)
+    (λ c. search needs))

@@ -13,12 +13,6 @@ use Rattle.descriptors.proofs.base_length.Tie as tie
 returns : tie.Need-returns
 returns c = sym (base-none _ (c .if1 .taken))
 
-shared-slice-read-b : tie.Need-shared-slice-read-b
-shared-slice-read-b c = search needs
-
-is-letter-requires : tie.Need-is-letter-requires
-is-letter-requires c κs = search needs
-
 returns-2 : tie.Need-returns-2
 returns-2 c =
     let h : 0 < length (c .before .before .before .before .before .args .s .now) = omega arith in
@@ -28,18 +22,6 @@ returns-3 : tie.Need-returns-3
 returns-3 c =
     let h : 0 < length (c .before .before .before .before .before .before .args .s .now) = omega arith in
     simp (base-some, ← c .before .before .is-letter .ensures, c .before .if2 .left, ne-eqb _ _ (c .if3 .taken))
-
-sub-class-length : tie.Need-sub-class-length
-sub-class-length c = search needs
-
-part-class-length-start : tie.Need-part-class-length-start
-part-class-length-start c = search needs
-
-part-class-length-end : tie.Need-part-class-length-end
-part-class-length-end c = search needs
-
-class-length-requires : tie.Need-class-length-requires
-class-length-requires c κs = search needs
 
 add-result : tie.Need-add-result
 add-result c =
@@ -63,14 +45,14 @@ base-length-spec =
     tie.close
     (tie.spec
     returns
-    shared-slice-read-b
-    is-letter-requires
+    (λ c. search needs)
+    (λ c κs. search needs)
     returns-2
     returns-3
-    sub-class-length
-    part-class-length-start
-    part-class-length-end
-    class-length-requires
+    (λ c. search needs)
+    (λ c. search needs)
+    (λ c. search needs)
+    (λ c κs. search needs)
     add-result
     returns-4
     returns-5)

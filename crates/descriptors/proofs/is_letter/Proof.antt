@@ -26,19 +26,55 @@ returns-5 c = simp (ne-eqb _ _ (c .before .before .before .before .if1 .left), n
 
 returns-6 : tie.Need-returns-6
 unfolding oneOf
-returns-6 c = simp (ne-eqb _ _ (c .before .before .before .before .before .if1 .left), ne-eqb _ _ (c .before .before .before .before .if2 .left), ne-eqb _ _ (c .before .before .before .if3 .left), ne-eqb _ _ (c .before .before .if4 .left), ne-eqb _ _ (c .before .if5 .left), eq-eqb _ _ (c .if6 .taken))
+returns-6 c = simp (
+  ne-eqb _ _ (c .before .before .before .before .before .if1 .left),
+  ne-eqb _ _ (c .before .before .before .before .if2 .left),
+  ne-eqb _ _ (c .before .before .before .if3 .left),
+  ne-eqb _ _ (c .before .before .if4 .left),
+  ne-eqb _ _ (c .before .if5 .left),
+  eq-eqb _ _ (c .if6 .taken),
+)
 
 returns-7 : tie.Need-returns-7
 unfolding oneOf
-returns-7 c = simp (ne-eqb _ _ (c .before .before .before .before .before .before .if1 .left), ne-eqb _ _ (c .before .before .before .before .before .if2 .left), ne-eqb _ _ (c .before .before .before .before .if3 .left), ne-eqb _ _ (c .before .before .before .if4 .left), ne-eqb _ _ (c .before .before .if5 .left), ne-eqb _ _ (c .before .if6 .left), eq-eqb _ _ (c .if7 .taken))
+returns-7 c =
+    let p5 = c .before .before .before .before .before in
+    let p6 = p5 .before in
+    simp (ne-eqb _ _ (p6 .if1 .left), ne-eqb _ _ (p5 .if2 .left), ne-eqb _ _ (c .before .before .before .before .if3 .left), ne-eqb _ _ (c .before .before .before .if4 .left), ne-eqb _ _ (c .before .before .if5 .left), ne-eqb _ _ (c .before .if6 .left), eq-eqb _ _ (c .if7 .taken))
 
 returns-8 : tie.Need-returns-8
 unfolding oneOf
-returns-8 c = simp (ne-eqb _ _ (c .before .before .before .before .before .before .before .if1 .left), ne-eqb _ _ (c .before .before .before .before .before .before .if2 .left), ne-eqb _ _ (c .before .before .before .before .before .if3 .left), ne-eqb _ _ (c .before .before .before .before .if4 .left), ne-eqb _ _ (c .before .before .before .if5 .left), ne-eqb _ _ (c .before .before .if6 .left), ne-eqb _ _ (c .before .if7 .left), eq-eqb _ _ (c .if8 .taken))
+returns-8 c =
+    let p5 = c .before .before .before .before .before in
+    let p6 = p5 .before in
+    let p7 = p6 .before in
+    simp (
+      ne-eqb _ _ (p7 .if1 .left),
+      ne-eqb _ _ (p6 .if2 .left),
+      ne-eqb _ _ (p5 .if3 .left),
+      ne-eqb _ _ (c .before .before .before .before .if4 .left),
+      ne-eqb _ _ (c .before .before .before .if5 .left),
+      ne-eqb _ _ (c .before .before .if6 .left),
+      ne-eqb _ _ (c .before .if7 .left),
+      eq-eqb _ _ (c .if8 .taken),
+    )
 
 returns-9 : tie.Need-returns-9
 unfolding oneOf
-returns-9 c = simp (ne-eqb _ _ (c .before .before .before .before .before .before .before .if1 .left), ne-eqb _ _ (c .before .before .before .before .before .before .if2 .left), ne-eqb _ _ (c .before .before .before .before .before .if3 .left), ne-eqb _ _ (c .before .before .before .before .if4 .left), ne-eqb _ _ (c .before .before .before .if5 .left), ne-eqb _ _ (c .before .before .if6 .left), ne-eqb _ _ (c .before .if7 .left), ne-eqb _ _ (c .if8 .left))
+returns-9 c =
+    let p5 = c .before .before .before .before .before in
+    let p6 = p5 .before in
+    let p7 = p6 .before in
+    simp (
+      ne-eqb _ _ (p7 .if1 .left),
+      ne-eqb _ _ (p6 .if2 .left),
+      ne-eqb _ _ (p5 .if3 .left),
+      ne-eqb _ _ (c .before .before .before .before .if4 .left),
+      ne-eqb _ _ (c .before .before .before .if5 .left),
+      ne-eqb _ _ (c .before .before .if6 .left),
+      ne-eqb _ _ (c .before .if7 .left),
+      ne-eqb _ _ (c .if8 .left),
+    )
 
 pub is-letter-spec : {M : Type 1} → statement M
 is-letter-spec = tie.close (tie.spec returns returns-2 returns-3 returns-4 returns-5 returns-6 returns-7 returns-8 returns-9)

@@ -6,20 +6,11 @@ use borrow.Author.Needs.{needs}
 use Rattle.descriptors.proofs.type_length.Statement.{statement}
 use Rattle.descriptors.proofs.type_length.Tie as tie
 
-dimensions-requires : tie.Need-dimensions-requires
-dimensions-requires c κs = search needs
-
 sub-base-length : tie.Need-sub-base-length
 sub-base-length c = omega (arith, depth-le (c .before .before .args .s .now))
 
 part-base-length-start : tie.Need-part-base-length-start
 part-base-length-start c = omega (arith, depth-le (c .before .before .args .s .now))
-
-part-base-length-end : tie.Need-part-base-length-end
-part-base-length-end c = search needs
-
-base-length-requires : tie.Need-base-length-requires
-base-length-requires c κs = search needs
 
 add-result : tie.Need-add-result
 add-result c =
@@ -36,11 +27,11 @@ pub type-length-spec : {M : Type 1} → statement M
 type-length-spec =
     tie.close
     (tie.spec
-    dimensions-requires
+    (λ c κs. search needs)
     sub-base-length
     part-base-length-start
-    part-base-length-end
-    base-length-requires
+    (λ c. search needs)
+    (λ c κs. search needs)
     add-result
     returns
     returns-2)

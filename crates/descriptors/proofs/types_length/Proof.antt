@@ -18,18 +18,6 @@ abbrev μ-loop : tie.MeasureT-loop
 loop-holds : tie.Need-loop-holds Inv-loop μ-loop
 loop-holds c = start typeLength type-in _
 
-sub-type-length : tie.Need-sub-type-length Inv-loop μ-loop
-sub-type-length c = search needs
-
-part-type-length-start : tie.Need-part-type-length-start Inv-loop μ-loop
-part-type-length-start c = search needs
-
-part-type-length-end : tie.Need-part-type-length-end Inv-loop μ-loop
-part-type-length-end c = search needs
-
-type-length-requires : tie.Need-type-length-requires Inv-loop μ-loop
-type-length-requires c κs = search needs
-
 returns : tie.Need-returns Inv-loop μ-loop
 returns c = stop typeLength type-in _ _ _ (c .before .before .before .before .loop .inv) (rw part at (c .before .type-length .ensures)) (c .if1 .taken)
 
@@ -56,10 +44,10 @@ types-length-spec =
     Inv-loop
     μ-loop
     loop-holds
-    sub-type-length
-    part-type-length-start
-    part-type-length-end
-    type-length-requires
+    (λ c. search needs)
+    (λ c. search needs)
+    (λ c. search needs)
+    (λ c κs. search needs)
     returns
     add-i
     loop-less

@@ -5,8 +5,6 @@ use Rattle.handed.specs.Walk.{onward}
 use borrow.Author.Tests.{eq-eqb, le-leb, le-ltb, lt-leb, lt-ltb, ne-eqb}
 use Rattle.handed.proofs.agreed_to.Statement.{statement}
 use Rattle.handed.proofs.agreed_to.Tie as tie
-use Rattle.handed.proofs.agreed_to.Reads as reads
-use Rattle.handed.proofs.agreed_to.Lts as lts
 
 returns : tie.Need-returns
 unfolding onward
@@ -16,17 +14,8 @@ returns-2 : tie.Need-returns-2
 unfolding onward
 returns-2 c = simp (le-ltb _ _ (c .before .if1 .left), le-leb _ _ (c .if2 .taken))
 
-mul-if3 : tie.Need-mul-if3
-mul-if3 c = search needs
-
-shared-slice-read-if3 : tie.Need-shared-slice-read-if3
-shared-slice-read-if3 c = search needs
-
 cast-if3 : tie.Need-cast-if3
 cast-if3 c = omega (arith, c .shared-slice-known .given (c .before .before .before .args .n))
-
-add-result : tie.Need-add-result
-add-result c = search needs
 
 returns-3 : tie.Need-returns-3
 unfolding onward
@@ -42,9 +31,9 @@ agreed-to-spec =
     (tie.spec
     returns
     returns-2
-    mul-if3
-    shared-slice-read-if3
+    (λ c. search needs)
+    (λ c. search needs)
     cast-if3
-    add-result
+    (λ c. search needs)
     returns-3
     returns-4)

@@ -4,8 +4,6 @@ use Rattle.literal.proofs.Laws.{is-nan, no-nan}
 use Rattle.literal.specs.Values.{twofold}
 use Rattle.literal.proofs.double_of.Statement.{statement}
 use Rattle.literal.proofs.double_of.Tie as tie
-use Rattle.literal.proofs.double_of.Reads as reads
-use Rattle.literal.proofs.double_of.Lts as lts
 
 float-from-bits-t5 : tie.Need-float-from-bits-t5
 float-from-bits-t5 c = rw (no-nan binary64 _ (c .if1 .taken)) tt

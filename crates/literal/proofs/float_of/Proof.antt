@@ -4,8 +4,6 @@ use Rattle.literal.proofs.Laws.{is-nan, no-nan}
 use Rattle.literal.specs.Values.{single}
 use Rattle.literal.proofs.float_of.Statement.{statement}
 use Rattle.literal.proofs.float_of.Tie as tie
-use Rattle.literal.proofs.float_of.Reads as reads
-use Rattle.literal.proofs.float_of.Lts as lts
 
 float-from-bits-t5 : tie.Need-float-from-bits-t5
 float-from-bits-t5 c = rw (no-nan binary32 _ (c .if1 .taken)) tt

@@ -4,8 +4,6 @@ use Rattle.literal.proofs.Laws.{plain, nan-bits}
 use borrow.Author.Needs.{needs}
 use Rattle.literal.proofs.of_f64.Statement.{statement}
 use Rattle.literal.proofs.of_f64.Tie as tie
-use Rattle.literal.proofs.of_f64.Reads as reads
-use Rattle.literal.proofs.of_f64.Lts as lts
 
 returns : tie.Need-returns
 returns c = nan-bits binary64 _ (c .if1 .taken)
@@ -13,8 +11,5 @@ returns c = nan-bits binary64 _ (c .if1 .taken)
 float-to-bits-result : tie.Need-float-to-bits-result
 float-to-bits-result c = plain _ (c .if1 .left)
 
-returns-2 : tie.Need-returns-2
-returns-2 c = search needs
-
 pub of-f64-spec : {M : Type 1} → statement M
-of-f64-spec = tie.close (tie.spec returns float-to-bits-result returns-2)
+of-f64-spec = tie.close (tie.spec returns float-to-bits-result (λ c. search needs))

@@ -4,8 +4,6 @@ use mir.Syntax.{w32}
 use Rattle.literal.proofs.Laws.{from-zero, its-bits, turned-fits, turned-cast, turned-small, turned-bits}
 use Rattle.literal.proofs.of_i32.Statement.{statement}
 use Rattle.literal.proofs.of_i32.Tie as tie
-use Rattle.literal.proofs.of_i32.Reads as reads
-use Rattle.literal.proofs.of_i32.Lts as lts
 
 cast-result : tie.Need-cast-result
 cast-result c = from-zero w32 _ (c .before .fits .x) tt (c .if1 .taken)

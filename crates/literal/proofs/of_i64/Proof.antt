@@ -4,8 +4,6 @@ use mir.Syntax.{w64}
 use Rattle.literal.proofs.Laws.{from-zero, its-bits, turned-fits, turned-cast, turned-small, turned-bits}
 use Rattle.literal.proofs.of_i64.Statement.{statement}
 use Rattle.literal.proofs.of_i64.Tie as tie
-use Rattle.literal.proofs.of_i64.Reads as reads
-use Rattle.literal.proofs.of_i64.Lts as lts
 
 cast-result : tie.Need-cast-result
 cast-result c = from-zero w64 _ (c .before .fits .x) tt (c .if1 .taken)

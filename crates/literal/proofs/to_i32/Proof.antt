@@ -8,17 +8,6 @@ use Rattle.literal.proofs.Laws.{less-fits, less-is, twos-low, twos-high
 use borrow.Author.Needs.{needs}
 use Rattle.literal.proofs.to_i32.Statement.{statement}
 use Rattle.literal.proofs.to_i32.Tie as tie
-use Rattle.literal.proofs.to_i32.Reads as reads
-use Rattle.literal.proofs.to_i32.Lts as lts
-
-cast-result : tie.Need-cast-result
-cast-result c = search needs
-
-sub-result : tie.Need-sub-result
-sub-result c = search needs
-
-cast-result-2 : tie.Need-cast-result-2
-cast-result-2 c = search needs
 
 sub-result-2 : tie.Need-sub-result-2
 sub-result-2 c = less-fits w32 (4294967295 - c .before .args .x) (omega arith)
@@ -31,4 +20,4 @@ returns-2 c = less-is w32 (4294967295 - c .before .args .x) (omega arith) ∙ tw
 
 pub to-i32-spec : {M : Type 1} → statement M
 to-i32-spec =
-    tie.close (tie.spec cast-result sub-result cast-result-2 sub-result-2 returns returns-2)
+    tie.close (tie.spec (λ c. search needs) (λ c. search needs) (λ c. search needs) sub-result-2 returns returns-2)

@@ -5,23 +5,13 @@ use Rattle.member.specs.Member.{alike}
 use Rattle.member.proofs.Duplicates.{alike-self}
 use Rattle.member.proofs.is_alike.Statement.{statement}
 use Rattle.member.proofs.is_alike.Tie as tie
-use Rattle.member.proofs.is_alike.Reads as reads
-use Rattle.member.proofs.is_alike.Lts as lts
-use Rattle.check.proofs.same.Reads as same-reads
-use Rattle.slot.proofs.bytes_of.Reads as bytes-of-reads
 
 returns : tie.Need-returns
 returns c = alike-self _ _ _ (c .if1 .taken)
-
-bytes-of-requires : tie.Need-bytes-of-requires
-bytes-of-requires c κs = search needs
-
-same-requires : tie.Need-same-requires
-same-requires c κs = search needs
 
 returns-2 : tie.Need-returns-2
 unfolding alike
 returns-2 c = simp (← c .before .before .before .before .before .before .pre, ← c .before .bytes-of .ensures) (decides _ _ _ (c .same .ensures))
 
 pub is-alike-spec : {M : Type 1} → statement M
-is-alike-spec = tie.close (tie.spec returns bytes-of-requires same-requires returns-2)
+is-alike-spec = tie.close (tie.spec returns (λ c κs. search needs) (λ c κs. search needs) returns-2)

@@ -4,24 +4,14 @@ use Rattle.member.specs.Member.{goodText}
 use borrow.Author.Tests.{eq-eqb, ne-eqb}
 use Rattle.member.proofs.is_good.Statement.{statement}
 use Rattle.member.proofs.is_good.Tie as tie
-use Rattle.member.proofs.is_good.Reads as reads
-use Rattle.member.proofs.is_good.Lts as lts
-use Rattle.member.proofs.is_good_name.Reads as is-good-name-reads
-use Rattle.member.proofs.is_good_type.Reads as is-good-type-reads
-
-is-good-name-requires : tie.Need-is-good-name-requires
-is-good-name-requires c κs = search needs
 
 returns : tie.Need-returns
 unfolding goodText
 returns c = simp (eq-eqb _ _ (c .before .if1 .taken), ← c .is-good-name .ensures)
-
-is-good-type-requires : tie.Need-is-good-type-requires
-is-good-type-requires c κs = search needs
 
 returns-2 : tie.Need-returns-2
 unfolding goodText
 returns-2 c = simp (ne-eqb _ _ (c .before .if1 .left), ← c .is-good-type .ensures)
 
 pub is-good-spec : {M : Type 1} → statement M
-is-good-spec = tie.close (tie.spec is-good-name-requires returns is-good-type-requires returns-2)
+is-good-spec = tie.close (tie.spec (λ c κs. search needs) returns (λ c κs. search needs) returns-2)

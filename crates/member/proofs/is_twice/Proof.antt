@@ -8,10 +8,6 @@ use Rattle.member.specs.Member.{twice}
 use Rattle.member.proofs.Duplicates.{twice-in, twice-out, twice-short}
 use Rattle.member.proofs.is_twice.Statement.{statement}
 use Rattle.member.proofs.is_twice.Tie as tie
-use Rattle.member.proofs.is_twice.Reads as reads
-use Rattle.member.proofs.is_twice.Lts as lts
-use Rattle.member.proofs.is_same.Reads as is-same-reads
-use Rattle.slot.proofs.bytes_of.Reads as bytes-of-reads
 
 abbrev Inv-loop : tie.InvT-loop
 Inv-loop file major table slots name descriptor names types mine shape i₀ i = twice (seen file major table slots) name descriptor (drop i names) (drop i types) ≡ twice (seen file major table slots) name descriptor names types
@@ -19,41 +15,17 @@ Inv-loop file major table slots name descriptor names types mine shape i₀ i = 
 abbrev μ-loop : tie.MeasureT-loop
 μ-loop file major table slots name descriptor names types mine shape i₀ i = length names - i
 
-bytes-of-requires : tie.Need-bytes-of-requires Inv-loop μ-loop
-bytes-of-requires c κs = search needs
-
-bytes-of-requires-2 : tie.Need-bytes-of-requires-2 Inv-loop μ-loop
-bytes-of-requires-2 c κs = search needs
-
 loop-holds : tie.Need-loop-holds Inv-loop μ-loop
 loop-holds c = refl
 
 returns : tie.Need-returns Inv-loop μ-loop
 returns c = let h = c .before .loop-test .taken in let g = c .if1 .taken in simp (← c .before .before .loop .inv, twice-short)
 
-mul-m : tie.Need-mul-m Inv-loop μ-loop
-mul-m c = search needs
-
-shared-slice-read-m : tie.Need-shared-slice-read-m Inv-loop μ-loop
-shared-slice-read-m c = search needs
-
-mul-t : tie.Need-mul-t Inv-loop μ-loop
-mul-t c = search needs
-
-shared-slice-read-t : tie.Need-shared-slice-read-t Inv-loop μ-loop
-shared-slice-read-t c = search needs
-
 is-same-requires : tie.Need-is-same-requires Inv-loop μ-loop
 is-same-requires c κs = (c .before .before .before .before .before .before .bytes-of .ensures, c .before .before .before .before .before .bytes-of2 .ensures)
 
 returns-2 : tie.Need-returns-2 Inv-loop μ-loop
 returns-2 c = let h = c .before .before .before .before .before .loop-test .taken in let g = c .before .before .before .before .if1 .left in simp (← c .before .before .before .before .before .before .loop .inv, twice-in, ← c .before .is-same .ensures, c .if2 .taken)
-
-add-i : tie.Need-add-i Inv-loop μ-loop
-add-i c = search needs
-
-loop-less : tie.Need-loop-less Inv-loop μ-loop
-loop-less c = search needs
 
 loop-again : tie.Need-loop-again Inv-loop μ-loop
 loop-again c = let h = c .before .before .before .before .before .loop-test .taken in let g = c .before .before .before .before .if1 .left in simp (twice-in, ← c .before .is-same .ensures, c .if2 .left) at (c .before .before .before .before .before .before .loop .inv)
@@ -67,17 +39,17 @@ is-twice-spec =
     (tie.spec
     Inv-loop
     μ-loop
-    bytes-of-requires
-    bytes-of-requires-2
+    (λ c κs. search needs)
+    (λ c κs. search needs)
     loop-holds
     returns
-    mul-m
-    shared-slice-read-m
-    mul-t
-    shared-slice-read-t
+    (λ c. search needs)
+    (λ c. search needs)
+    (λ c. search needs)
+    (λ c. search needs)
     is-same-requires
     returns-2
-    add-i
-    loop-less
+    (λ c. search needs)
+    (λ c. search needs)
     loop-again
     returns-3)

@@ -2,8 +2,6 @@
 use Rattle.member.specs.Member.{masked}
 use Rattle.member.proofs.mask.Statement.{statement}
 use Rattle.member.proofs.mask.Tie as tie
-use Rattle.member.proofs.mask.Reads as reads
-use Rattle.member.proofs.mask.Lts as lts
 
 returns : tie.Need-returns
 unfolding masked

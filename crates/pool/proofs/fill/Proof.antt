@@ -10,10 +10,6 @@ use Rattle.pool.proofs.Entries.{slot-in, cell-below}
 use Rattle.pool.proofs.Filling.{Sofar, begin, empty, turn, stopped, full, last, done}
 use Rattle.pool.proofs.fill.Statement.{statement}
 use Rattle.pool.proofs.fill.Tie as tie
-use Rattle.pool.proofs.fill.Reads as reads
-use Rattle.pool.proofs.fill.Lts as lts
-use Rattle.pool.proofs.slot_at.Reads as slot-at-reads
-use Rattle.reads.proofs.clear.Reads as clear-reads
 
 abbrev Inv-loop : tie.InvT-loop
 Inv-loop file major count table₀ n₀ at₀ owed₀ table n at owed = Sofar file major count (length table₀) table n at owed
@@ -27,25 +23,17 @@ returns c = empty _ _ _ _ _ (c .if1 .taken) (c .before .before .before .pre .1)
 loop-holds : tie.Need-loop-holds Inv-loop μ-loop
 loop-holds c = begin _ _ _ _ _ (omega arith) (c .before .before .before .pre .1) refl
 
-slot-at-requires : tie.Need-slot-at-requires Inv-loop μ-loop
-slot-at-requires c κs = search needs
-
-enum-known-r : tie.Need-enum-known-r Inv-loop μ-loop
-enum-known-r c = search needs
-
-clear-requires : tie.Need-clear-requires Inv-loop μ-loop
-clear-requires c κs = search needs
-
 same-length : tie.Need-same-length Inv-loop μ-loop
 same-length c = c .before .before .clear .kept .0 ∙ c .before .before .before .before .before .before .before .before .before .loop .inv .long
 
 returns-2 : tie.Need-returns-2 Inv-loop μ-loop
 returns-2 c =
-    stopped _ _ _ _ _ _ _ _ (c .before .before .before .before .before .before .before .before .before .loop .inv) _ _ _ (c .before .before .before .before .before .before .before .before .loop-test .taken) (got readingSlot (c .before .before .before .before .before .r .given .1) (c .before .before .before .before .before .before .before .slot-at .ensures))
-    (c .before .before .clear .ensures ∙ ap (λ (k : ℕ). replicate k 0) (c .before .before .before .before .before .before .before .before .before .loop .inv .long))
-
-enum-known-e : tie.Need-enum-known-e Inv-loop μ-loop
-enum-known-e c = search needs
+    let p5 = c .before .before .before .before .before in
+    let p7 = p5 .before .before in
+    let p8 = p7 .before in
+    let p9 = p8 .before in
+    stopped _ _ _ _ _ _ _ _ (p9 .loop .inv) _ _ _ (p8 .loop-test .taken) (got readingSlot (p5 .r .given .1) (p7 .slot-at .ensures))
+    (c .before .before .clear .ensures ∙ ap (λ (k : ℕ). replicate k 0) (p9 .loop .inv .long))
 
 cast-table : tie.Need-cast-table Inv-loop μ-loop
 cast-table c = omega (arith, cell-below _ _ _ _ _ _ _ (got readingSlot (c .before .before .e .given .1) (c .before .before .before .before .slot-at .ensures)), c .before .before .before .before .before .before .before .before .before .before .pre .0)
@@ -56,17 +44,11 @@ mul-table c = omega (arith, slot-in _ _ _ _ _ _ _ (got readingSlot (c .before .b
 slice-write-table : tie.Need-slice-write-table Inv-loop μ-loop
 slice-write-table c = slot-in _ _ _ _ _ _ _ (got readingSlot (c .before .before .e .given .1) (c .before .before .before .before .slot-at .ensures))
 
-add-n : tie.Need-add-n Inv-loop μ-loop
-add-n c = search needs
-
-loop-less : tie.Need-loop-less Inv-loop μ-loop
-loop-less c = search needs
-
 loop-again : tie.Need-loop-again Inv-loop μ-loop
-loop-again c = turn _ _ _ _ _ _ _ _ (c .before .before .before .before .before .before .loop .inv) _ (c .before .before .before .before .before .loop-test .taken) (got readingSlot (c .before .before .e .given .1) (c .before .before .before .before .slot-at .ensures))
-
-clear-requires-2 : tie.Need-clear-requires-2 Inv-loop μ-loop
-clear-requires-2 c κs = search needs
+loop-again c =
+    let p5 = c .before .before .before .before .before in
+    let p6 = p5 .before in
+    turn _ _ _ _ _ _ _ _ (p6 .loop .inv) _ (p5 .loop-test .taken) (got readingSlot (c .before .before .e .given .1) (c .before .before .before .before .slot-at .ensures))
 
 same-length-2 : tie.Need-same-length-2 Inv-loop μ-loop
 same-length-2 c = c .before .before .clear2 .kept .0 ∙ c .before .before .before .before .before .before .before .loop .inv .long
@@ -76,9 +58,6 @@ returns-3 c =
     let v = c .before .before .before .before .before .before .before .loop .inv in
     full _ _ _ _ _ _ _ _ v _ (c .before .before .before .before .before .before .loop-test .left) (c .before .before .before .before .before .if2 .taken) (omega arith)
     (c .before .before .clear2 .ensures ∙ ap (λ (k : ℕ). replicate k 0) (v .long))
-
-add-t22 : tie.Need-add-t22 Inv-loop μ-loop
-add-t22 c = search needs
 
 same-length-3 : tie.Need-same-length-3 Inv-loop μ-loop
 same-length-3 c = c .before .before .before .loop .inv .long
@@ -100,22 +79,22 @@ fill-spec =
     μ-loop
     returns
     loop-holds
-    slot-at-requires
-    enum-known-r
-    clear-requires
+    (λ c κs. search needs)
+    (λ c. search needs)
+    (λ c κs. search needs)
     same-length
     returns-2
-    enum-known-e
+    (λ c. search needs)
     cast-table
     mul-table
     slice-write-table
-    add-n
-    loop-less
+    (λ c. search needs)
+    (λ c. search needs)
     loop-again
-    clear-requires-2
+    (λ c κs. search needs)
     same-length-2
     returns-3
-    add-t22
+    (λ c. search needs)
     same-length-3
     returns-4
     same-length-4

@@ -3,8 +3,6 @@ use borrow.Author.Tests.{ne-eqb}
 use Rattle.pool.specs.Rows.{rowOf}
 use Rattle.pool.proofs.row_of.Statement.{statement}
 use Rattle.pool.proofs.row_of.Tie as tie
-use Rattle.pool.proofs.row_of.Reads as reads
-use Rattle.pool.proofs.row_of.Lts as lts
 
 returns : tie.Need-returns
 unfolding rowOf
@@ -76,7 +74,25 @@ returns-17 c = simp (c .match .keys17)
 
 returns-18 : tie.Need-returns-18
 unfolding rowOf
-returns-18 c = simp (ne-eqb _ _ (c .match .rest .0 .0 .0 .0 .0 .0 .0 .0 .0 .0 .0 .0 .0 .0 .0 .0 .1), ne-eqb _ _ (c .match .rest .0 .0 .0 .0 .0 .0 .0 .0 .0 .0 .0 .0 .0 .0 .0 .1), ne-eqb _ _ (c .match .rest .0 .0 .0 .0 .0 .0 .0 .0 .0 .0 .0 .0 .0 .0 .1), ne-eqb _ _ (c .match .rest .0 .0 .0 .0 .0 .0 .0 .0 .0 .0 .0 .0 .0 .1), ne-eqb _ _ (c .match .rest .0 .0 .0 .0 .0 .0 .0 .0 .0 .0 .0 .0 .1), ne-eqb _ _ (c .match .rest .0 .0 .0 .0 .0 .0 .0 .0 .0 .0 .0 .1), ne-eqb _ _ (c .match .rest .0 .0 .0 .0 .0 .0 .0 .0 .0 .0 .1), ne-eqb _ _ (c .match .rest .0 .0 .0 .0 .0 .0 .0 .0 .0 .1), ne-eqb _ _ (c .match .rest .0 .0 .0 .0 .0 .0 .0 .0 .1), ne-eqb _ _ (c .match .rest .0 .0 .0 .0 .0 .0 .0 .1), ne-eqb _ _ (c .match .rest .0 .0 .0 .0 .0 .0 .1), ne-eqb _ _ (c .match .rest .0 .0 .0 .0 .0 .1), ne-eqb _ _ (c .match .rest .0 .0 .0 .0 .1), ne-eqb _ _ (c .match .rest .0 .0 .0 .1), ne-eqb _ _ (c .match .rest .0 .0 .1), ne-eqb _ _ (c .match .rest .0 .1), ne-eqb _ _ (c .match .rest .1))
+returns-18 c = simp (
+  ne-eqb _ _ (c .match .rest .0 .0 .0 .0 .0 .0 .0 .0 .0 .0 .0 .0 .0 .0 .0 .0 .1),
+  ne-eqb _ _ (c .match .rest .0 .0 .0 .0 .0 .0 .0 .0 .0 .0 .0 .0 .0 .0 .0 .1),
+  ne-eqb _ _ (c .match .rest .0 .0 .0 .0 .0 .0 .0 .0 .0 .0 .0 .0 .0 .0 .1),
+  ne-eqb _ _ (c .match .rest .0 .0 .0 .0 .0 .0 .0 .0 .0 .0 .0 .0 .0 .1),
+  ne-eqb _ _ (c .match .rest .0 .0 .0 .0 .0 .0 .0 .0 .0 .0 .0 .0 .1),
+  ne-eqb _ _ (c .match .rest .0 .0 .0 .0 .0 .0 .0 .0 .0 .0 .0 .1),
+  ne-eqb _ _ (c .match .rest .0 .0 .0 .0 .0 .0 .0 .0 .0 .0 .1),
+  ne-eqb _ _ (c .match .rest .0 .0 .0 .0 .0 .0 .0 .0 .0 .1),
+  ne-eqb _ _ (c .match .rest .0 .0 .0 .0 .0 .0 .0 .0 .1),
+  ne-eqb _ _ (c .match .rest .0 .0 .0 .0 .0 .0 .0 .1),
+  ne-eqb _ _ (c .match .rest .0 .0 .0 .0 .0 .0 .1),
+  ne-eqb _ _ (c .match .rest .0 .0 .0 .0 .0 .1),
+  ne-eqb _ _ (c .match .rest .0 .0 .0 .0 .1),
+  ne-eqb _ _ (c .match .rest .0 .0 .0 .1),
+  ne-eqb _ _ (c .match .rest .0 .0 .1),
+  ne-eqb _ _ (c .match .rest .0 .1),
+  ne-eqb _ _ (c .match .rest .1),
+)
 
 pub row-of-spec : {M : Type 1} → statement M
 row-of-spec =

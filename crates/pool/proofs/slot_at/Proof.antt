@@ -4,9 +4,6 @@ use borrow.Author.Tests.{le-ltb, lt-ltb}
 use Rattle.pool.specs.Pool.{slotAt}
 use Rattle.pool.proofs.slot_at.Statement.{statement}
 use Rattle.pool.proofs.slot_at.Tie as tie
-use Rattle.pool.proofs.slot_at.Reads as reads
-use Rattle.pool.proofs.slot_at.Lts as lts
-use Rattle.pool.proofs.entry_at.Reads as entry-at-reads
 
 returns : tie.Need-returns
 unfolding slotAt
@@ -15,15 +12,6 @@ returns c = simp (le-ltb _ _ (c .if1 .taken))
 returns-2 : tie.Need-returns-2
 unfolding slotAt
 returns-2 c = simp (lt-ltb _ _ (c .before .if1 .left), c .if2 .taken)
-
-entry-at-requires : tie.Need-entry-at-requires
-entry-at-requires c κs = search needs
-
-enum-known-r : tie.Need-enum-known-r
-enum-known-r c = search needs
-
-enum-known-e : tie.Need-enum-known-e
-enum-known-e c = search needs
 
 returns-3 : tie.Need-returns-3
 unfolding slotAt
@@ -39,8 +27,8 @@ slot-at-spec =
     (tie.spec
     returns
     returns-2
-    entry-at-requires
-    enum-known-r
-    enum-known-e
+    (λ c κs. search needs)
+    (λ c. search needs)
+    (λ c. search needs)
     returns-3
     returns-4)

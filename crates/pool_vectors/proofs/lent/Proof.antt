@@ -4,15 +4,9 @@ use lib.Seq.{length-take-le}
 use borrow.Author.Needs.{needs}
 use Rattle.pool_vectors.proofs.lent.Statement.{statement}
 use Rattle.pool_vectors.proofs.lent.Tie as tie
-use Rattle.pool_vectors.proofs.lent.Reads as reads
-use Rattle.pool_vectors.proofs.lent.Lts as lts
-use Rattle.pool_vectors.proofs.up_to.Reads as up-to-reads
-
-up-to-requires : tie.Need-up-to-requires
-up-to-requires c κs = search needs
 
 returns : tie.Need-returns
 returns c = (c .up-to .ensures, sym (length-take-le _ _ (c .up-to .ensures)))
 
 pub lent-spec : {M : Type 1} → statement M
-lent-spec = tie.close (tie.spec up-to-requires returns)
+lent-spec = tie.close (tie.spec (λ c κs. search needs) returns)

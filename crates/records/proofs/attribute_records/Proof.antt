@@ -234,7 +234,8 @@ module _ {M : Type 1} (𝓤 : URA M) (H : Heap 𝓤) (A : Atoms 𝓤) (W : Given
         stays ! (load ! (from ! (stop !)) (look ! 3 refl)) $
         move ! (12 ∷ 13 ∷ []) $ use2 W (raw (AttributeOf 𝓤 H A mem run .pre (to i (lt-of-le-of-lt (le-add-right i 1) one))) ⊛ ‵ Own) (asks i (lt-of-le-of-lt (le-add-right i 1) one)) $ split ! $
         -- [pre; what the numbers own; the row; _5; _6; _7; _8; _9; _1; _4; room for _0; …]
-        calls-at ! (fmOf 𝓤 H (W .laws) 𝓣) (AttributeOf 𝓤 H A mem run) known (to i (lt-of-le-of-lt (le-add-right i 1) one)) (and-then ! (load ! (from ! (stop !)) (look ! 8 refl)) (and-then ! (load ! (from ! (stop !)) (look ! 22 refl)) (and-then ! (load ! (from ! (stop !)) (look ! 23 refl)) (and-then ! (load ! (from ! (stop !)) (look ! 3 refl)) (no-more !))))) (λ u.
+        calls-at ! (fmOf 𝓤 H (W .laws) 𝓣) (AttributeOf 𝓤 H A mem run) known (to i (lt-of-le-of-lt (le-add-right i 1) one))
+        (and-then ! (load ! (from ! (stop !)) (look ! 8 refl)) (and-then ! (load ! (from ! (stop !)) (look ! 22 refl)) (and-then ! (load ! (from ! (stop !)) (look ! 23 refl)) (and-then ! (load ! (from ! (stop !)) (look ! 3 refl)) (no-more !))))) (λ u.
         use1 W (later (some (λ (r : Attribute). ((‵ (flft κ q) ⊛ ‵ ftrue) ⊛ ‵ (R .own r (u ∷ []))) ⊛ raw (ensured 𝓤 H A g.ended (g.clauses 𝓤 H A mem run) (κ, tt) (d₁, (d₂, (d₃, (i, tt)))) tt r)))) (id⊢ 𝓤 _) $ await ! tt $ pick ! (λ r.
         split ! $ move ! (1 ∷ []) $ use1 W (raw (fact 𝓤 (r ≡ attributeOf cs i))) (said i (lt-of-le-of-lt (le-add-right i 1) one) r) $ heard ! (r ≡ attributeOf cs i) (λ e. split ! $ split ! $ move ! (1 ∷ []) $ drop ! $ move ! (1 ∷ []) $
         rewrite ! 0 (λ (m : Attribute). ‵ (R .own m (u ∷ []))) e refl $
@@ -268,7 +269,8 @@ module _ {M : Type 1} (𝓤 : URA M) (H : Heap 𝓤) (A : Atoms 𝓤) (W : Given
         move ! (0 ∷ 9 ∷ 10 ∷ 11 ∷ []) $ closes-slice ! tt R xs (ys n) (length-fill (attributeOf cs) xs n) b o $
         -- [obs; the borrow; its token; _5; _6; _7; _8; _9; _1; _4; _0; what the numbers own; its token; and that each local dies]
         returns ! (look ! 10 refl) $ forget ! 3 refl $ forget ! 4 refl $ forget ! 5 refl $ forget ! 8 refl $ forget ! 9 refl $ forget ! 10 refl $ forget ! 21 refl $ forget ! 22 refl $
-        move ! (10 ∷ 13 ∷ []) $ free1 ! $ move ! (8 ∷ 12 ∷ []) $ free1 ! $ move ! (17 ∷ 19 ∷ []) $ free1 ! $ move ! (17 ∷ 18 ∷ []) $ free1 ! $ move ! (8 ∷ 11 ∷ []) $ free1 ! $ move ! (3 ∷ 10 ∷ []) $ free1 ! $ move ! (3 ∷ 9 ∷ []) $ free1 ! $ move ! (3 ∷ 8 ∷ []) $ free1 ! $ move ! (3 ∷ 7 ∷ []) $ free1 ! $ move ! (3 ∷ 6 ∷ []) $ free1 ! $ free0 ! $ by ! (exits gn)
+        move ! (10 ∷ 13 ∷ []) $ free1 ! $ move ! (8 ∷ 12 ∷ []) $ free1 ! $ move ! (17 ∷ 19 ∷ []) $ free1 ! $ move ! (17 ∷ 18 ∷ []) $ free1 ! $ move ! (8 ∷ 11 ∷ []) $ free1 ! $ move ! (3 ∷ 10 ∷ []) $ free1 ! $ move ! (3 ∷ 9 ∷ []) $ free1 ! $ move ! (3 ∷ 8 ∷ []) $ free1 ! $ move ! (3 ∷ 7 ∷ []) $
+        free1 ! $ move ! (3 ∷ 6 ∷ []) $ free1 ! $ free0 ! $ by ! (exits gn)
 
     below : (t i : ℕ) → suc i + t ≡ n → ent 𝓤 (⋆ 𝓤 H A (At (suc i))) (Below (suc t))
     below t i e =
@@ -312,13 +314,16 @@ module _ {M : Type 1} (𝓤 : URA M) (H : Heap 𝓤) (A : Atoms 𝓤) (W : Given
 
 module _ {M : Type 1} (𝓤 : URA M) (H : Heap 𝓤) (A : Atoms 𝓤) (W : Given 𝓤 H A) (mem : Memory → SProp 𝓤) (run : Routine → Fun 𝓤) where
   out-walks : (𝓣 : Tables 𝓤 H) → Triple 𝓤 (𝓣 .C #records·attribute-of) (AttributeOf 𝓤 H A mem run) → Walks 𝓤 H A f.ended stayed (WpFn 𝓤 H (𝓣 .C) (𝓣 .Λ) code.function) (f.clauses 𝓤 H A mem run)
-  out-walks 𝓣 known = walked 𝓤 H A f.ended stayed (f.clauses 𝓤 H A mem run) (WpFn 𝓤 H (𝓣 .C) (𝓣 .Λ) code.function) (λ κs. (slice-vals, (slice-vals, (slice-vals, (slice-vals, tt))))) (λ κs. (shr-slice-tells (named 0) (κs .0) u16, (shr-slice-tells (named 0) (κs .0) u32, (shr-slice-tells (named 0) (κs .0) u32, (mut-slice-tells (named 1) (κs .1 .0) R, tt)))))
+  out-walks 𝓣 known = walked 𝓤 H A f.ended stayed (f.clauses 𝓤 H A mem run) (WpFn 𝓤 H (𝓣 .C) (𝓣 .Λ) code.function) (λ κs. (slice-vals, (slice-vals, (slice-vals, (slice-vals, tt)))))
+      (λ κs. (shr-slice-tells (named 0) (κs .0) u16, (shr-slice-tells (named 0) (κs .0) u32, (shr-slice-tells (named 0) (κs .0) u32, (mut-slice-tells (named 1) (κs .1 .0) R, tt)))))
       (λ κs qs bounds a g are. via 𝓤 _ (fst∗ 𝓤 _ (emp 𝓤))
       (walk 𝓤 H A W mem run (κs .0) (κs .1 .0) (qs .0) (qs .1 .0) (a .0) (a .1 .0) (a .1 .1 .0) (a .1 .1 .1 .0 .ptr .0) (a .1 .1 .1 .0 .ptr .1) (a .1 .1 .1 .0 .name) (a .1 .1 .1 .0 .now) 𝓣 known (are .0) (are .1 .0) (are .1 .1 .0) (are .1 .1 .1 .0 .0 .1)))
 
 out-meets : {M : Type 1} (𝓤 : URA M) (H : Heap 𝓤) (A : Atoms 𝓤) (W : Given 𝓤 H A) (mem : Memory → SProp 𝓤) (run : Routine → Fun 𝓤) (𝓣 : Tables 𝓤 H) → Triple 𝓤 (𝓣 .C #records·attribute-of) (AttributeOf 𝓤 H A mem run)
     → Meets 𝓤 H A f.signature (WpFn 𝓤 H (𝓣 .C) (𝓣 .Λ) code.function) (f.spec 𝓤 H A mem run)
-out-meets 𝓤 H A W mem run 𝓣 known = walk-meets 𝓤 H A f.ended stayed W (goes-none-slice 𝓤 H A W 2 (0 ∷ []) tt (plain (λ _. u16)) yes, (goes-none-slice 𝓤 H A W 2 (0 ∷ []) tt (plain (λ _. u32)) yes, (goes-none-slice 𝓤 H A W 2 (0 ∷ []) tt (plain (λ _. u32)) yes, (goes-slice 𝓤 H A W 2 1 tt (plain (λ _. R)), tt)))) (f.clauses 𝓤 H A mem run) (WpFn 𝓤 H (𝓣 .C) (𝓣 .Λ) code.function) (WpFn-mono 𝓤 H (W .laws) 𝓣 code.function) (out-walks 𝓤 H A W mem run 𝓣 known)
+out-meets 𝓤 H A W mem run 𝓣 known = walk-meets 𝓤 H A f.ended stayed W
+    (goes-none-slice 𝓤 H A W 2 (0 ∷ []) tt (plain (λ _. u16)) yes, (goes-none-slice 𝓤 H A W 2 (0 ∷ []) tt (plain (λ _. u32)) yes, (goes-none-slice 𝓤 H A W 2 (0 ∷ []) tt (plain (λ _. u32)) yes, (goes-slice 𝓤 H A W 2 1 tt (plain (λ _. R)), tt)))) (f.clauses 𝓤 H A mem run)
+    (WpFn 𝓤 H (𝓣 .C) (𝓣 .Λ) code.function) (WpFn-mono 𝓤 H (W .laws) 𝓣 code.function) (out-walks 𝓤 H A W mem run 𝓣 known)
 
 pub attribute-records-spec : {M : Type 1} → stated.statement M
 unfolding code.routine tablesOf

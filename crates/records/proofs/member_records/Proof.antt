@@ -81,7 +81,10 @@ abbrev records : Ty
 records = sliceTy (tyRef (named 1) mut (pointee (R .written)))
 
 abbrev stayed : Stays (f.ended .signature .params) (f.ended .kept)
-stayed = (stay-none-slice (0 ∷ []) tt (plain (λ _. u16)) yes, (stay-none-slice (0 ∷ []) tt (plain (λ _. u16)) yes, (stay-none-slice (0 ∷ []) tt (plain (λ _. u16)) yes, (stay-none-slice (0 ∷ []) tt (plain (λ _. u32)) yes, (stay-none-slice (0 ∷ []) tt (plain (λ _. u16)) yes, (stay-slice (1 ∷ []) tt (plain (λ _. R)), tt))))))
+stayed = (
+  stay-none-slice (0 ∷ []) tt (plain (λ _. u16)) yes,
+  (stay-none-slice (0 ∷ []) tt (plain (λ _. u16)) yes, (stay-none-slice (0 ∷ []) tt (plain (λ _. u16)) yes, (stay-none-slice (0 ∷ []) tt (plain (λ _. u32)) yes, (stay-none-slice (0 ∷ []) tt (plain (λ _. u16)) yes, (stay-slice (1 ∷ []) tt (plain (λ _. R)), tt))))),
+)
 
 module _ {M : Type 1} (𝓤 : URA M) (H : Heap 𝓤) (A : Atoms 𝓤) (mem : Memory → SProp 𝓤) (run : Routine → Fun 𝓤) where
   -- the contract that the proof cites
@@ -248,7 +251,10 @@ module _ {M : Type 1} (𝓤 : URA M) (H : Heap 𝓤) (A : Atoms 𝓤) (W : Given
         stays ! (load ! (from ! (stop !)) (look ! 3 refl)) $
         move ! (12 ∷ 13 ∷ []) $ use2 W (raw (MemberOf 𝓤 H A mem run .pre (to i (lt-of-le-of-lt (le-add-right i 1) one))) ⊛ ‵ Own) (asks i (lt-of-le-of-lt (le-add-right i 1) one)) $ split ! $
         -- [pre; what the numbers own; the row; _7; _8; _9; _10; _11; _1; _6; room for _0; …]
-        calls-at ! (fmOf 𝓤 H (W .laws) 𝓣) (MemberOf 𝓤 H A mem run) known (to i (lt-of-le-of-lt (le-add-right i 1) one)) (and-then ! (load ! (from ! (stop !)) (look ! 8 refl)) (and-then ! (load ! (from ! (stop !)) (look ! 22 refl)) (and-then ! (load ! (from ! (stop !)) (look ! 23 refl)) (and-then ! (load ! (from ! (stop !)) (look ! 24 refl)) (and-then ! (load ! (from ! (stop !)) (look ! 25 refl)) (and-then ! (load ! (from ! (stop !)) (look ! 3 refl)) (no-more !))))))) (λ u.
+        calls-at ! (fmOf 𝓤 H (W .laws) 𝓣) (MemberOf 𝓤 H A mem run) known (to i (lt-of-le-of-lt (le-add-right i 1) one))
+        (and-then ! (load ! (from ! (stop !)) (look ! 8 refl))
+        (and-then ! (load ! (from ! (stop !)) (look ! 22 refl))
+        (and-then ! (load ! (from ! (stop !)) (look ! 23 refl)) (and-then ! (load ! (from ! (stop !)) (look ! 24 refl)) (and-then ! (load ! (from ! (stop !)) (look ! 25 refl)) (and-then ! (load ! (from ! (stop !)) (look ! 3 refl)) (no-more !))))))) (λ u.
         use1 W (later (some (λ (r : Member). ((‵ (flft κ q) ⊛ ‵ ftrue) ⊛ ‵ (R .own r (u ∷ []))) ⊛ raw (ensured 𝓤 H A g.ended (g.clauses 𝓤 H A mem run) (κ, tt) (d₁, (d₂, (d₃, (d₄, (d₅, (i, tt)))))) tt r)))) (id⊢ 𝓤 _) $ await ! tt $ pick ! (λ r.
         split ! $ move ! (1 ∷ []) $ use1 W (raw (fact 𝓤 (r ≡ memberOf cs i))) (said i (lt-of-le-of-lt (le-add-right i 1) one) r) $ heard ! (r ≡ memberOf cs i) (λ e. split ! $ split ! $ move ! (1 ∷ []) $ drop ! $ move ! (1 ∷ []) $
         rewrite ! 0 (λ (m : Member). ‵ (R .own m (u ∷ []))) e refl $
@@ -282,7 +288,8 @@ module _ {M : Type 1} (𝓤 : URA M) (H : Heap 𝓤) (A : Atoms 𝓤) (W : Given
         move ! (0 ∷ 9 ∷ 10 ∷ 11 ∷ []) $ closes-slice ! tt R xs (ys n) (length-fill (memberOf cs) xs n) b o $
         -- [obs; the borrow; its token; _7; _8; _9; _10; _11; _1; _6; _0; what the numbers own; its token; and that each local dies]
         returns ! (look ! 10 refl) $ forget ! 3 refl $ forget ! 4 refl $ forget ! 5 refl $ forget ! 8 refl $ forget ! 9 refl $ forget ! 10 refl $ forget ! 21 refl $ forget ! 22 refl $ forget ! 23 refl $ forget ! 24 refl $
-        move ! (10 ∷ 13 ∷ []) $ free1 ! $ move ! (8 ∷ 12 ∷ []) $ free1 ! $ move ! (17 ∷ 21 ∷ []) $ free1 ! $ move ! (17 ∷ 20 ∷ []) $ free1 ! $ move ! (17 ∷ 19 ∷ []) $ free1 ! $ move ! (17 ∷ 18 ∷ []) $ free1 ! $ move ! (8 ∷ 11 ∷ []) $ free1 ! $ move ! (3 ∷ 10 ∷ []) $ free1 ! $ move ! (3 ∷ 9 ∷ []) $ free1 ! $ move ! (3 ∷ 8 ∷ []) $ free1 ! $ move ! (3 ∷ 7 ∷ []) $ free1 ! $ move ! (3 ∷ 6 ∷ []) $ free1 ! $ free0 ! $ by ! (exits gn)
+        move ! (10 ∷ 13 ∷ []) $ free1 ! $ move ! (8 ∷ 12 ∷ []) $ free1 ! $ move ! (17 ∷ 21 ∷ []) $ free1 ! $ move ! (17 ∷ 20 ∷ []) $ free1 ! $ move ! (17 ∷ 19 ∷ []) $ free1 ! $ move ! (17 ∷ 18 ∷ []) $ free1 ! $ move ! (8 ∷ 11 ∷ []) $ free1 ! $ move ! (3 ∷ 10 ∷ []) $ free1 ! $ move ! (3 ∷ 9 ∷ []) $
+        free1 ! $ move ! (3 ∷ 8 ∷ []) $ free1 ! $ move ! (3 ∷ 7 ∷ []) $ free1 ! $ move ! (3 ∷ 6 ∷ []) $ free1 ! $ free0 ! $ by ! (exits gn)
 
     below : (t i : ℕ) → suc i + t ≡ n → ent 𝓤 (⋆ 𝓤 H A (At (suc i))) (Below (suc t))
     below t i e =
@@ -305,11 +312,13 @@ module _ {M : Type 1} (𝓤 : URA M) (H : Heap 𝓤) (A : Atoms 𝓤) (W : Given
         (loop-rule 𝓤 H (W .laws) 𝓣 _<_ (Nat·lt-wfRel .wf) En code.Mir.turn-1 Left Inv turns n)
 
   -- the MIR, up to the loop: the borrow is opened once, before it
-  walk : (𝓣 : Tables 𝓤 H) → Triple 𝓤 (𝓣 .C #records·member-of) (MemberOf 𝓤 H A mem run) → Is (ShrSlice (named 0) κ u16) d₁ (v₁ ∷ []) → Is (ShrSlice (named 0) κ u16) d₂ (v₂ ∷ []) → Is (ShrSlice (named 0) κ u16) d₃ (v₃ ∷ []) → Is (ShrSlice (named 0) κ u32) d₄ (v₄ ∷ []) → Is (ShrSlice (named 0) κ u16) d₅ (v₅ ∷ []) → Room R n
+  walk : (𝓣 : Tables 𝓤 H) → Triple 𝓤 (𝓣 .C #records·member-of) (MemberOf 𝓤 H A mem run) → Is (ShrSlice (named 0) κ u16) d₁ (v₁ ∷ []) → Is (ShrSlice (named 0) κ u16) d₂ (v₂ ∷ []) → Is (ShrSlice (named 0) κ u16) d₃ (v₃ ∷ []) → Is (ShrSlice (named 0) κ u32) d₄ (v₄ ∷ []) → Is (ShrSlice (named 0) κ u16)
+      d₅ (v₅ ∷ []) → Room R n
       → ent 𝓤 (onEntry 𝓤 H A f.signature (κ, (κ′, tt)) (q, (q′, tt)) x at) (WpFn 𝓤 H (𝓣 .C) (𝓣 .Λ) code.function (v₁ ∷ v₂ ∷ v₃ ∷ v₄ ∷ v₅ ∷ w ∷ []) Post)
   unfolding fill
   walk 𝓣 known p₁ p₂ p₃ p₄ p₅ gn =
-      qed W ((‵ (flft κ q) ⊛ ‵ (flft κ′ q′) ⊛ ‵ ftrue) ∷ ‵ (owns (ShrSlice (named 0) κ u16 ∷ ShrSlice (named 0) κ u16 ∷ ShrSlice (named 0) κ u16 ∷ ShrSlice (named 0) κ u32 ∷ ShrSlice (named 0) κ u16 ∷ MutSlice (named 1) κ′ R ∷ []) x at) ∷ []) ∵ enter ! (𝓣 .C) (𝓣 .Λ) code.function (v₁ ∷ v₂ ∷ v₃ ∷ v₄ ∷ v₅ ∷ w ∷ []) _ $
+      qed W ((‵ (flft κ q) ⊛ ‵ (flft κ′ q′) ⊛ ‵ ftrue) ∷ ‵ (owns (ShrSlice (named 0) κ u16 ∷ ShrSlice (named 0) κ u16 ∷ ShrSlice (named 0) κ u16 ∷ ShrSlice (named 0) κ u32 ∷ ShrSlice (named 0) κ u16 ∷ MutSlice (named 1) κ′ R ∷ []) x at) ∷ []) ∵ enter ! (𝓣 .C) (𝓣 .Λ) code.function
+      (v₁ ∷ v₂ ∷ v₃ ∷ v₄ ∷ v₅ ∷ w ∷ []) _ $
       alloc1 ! (λ l₀. alloc1 ! (λ l₁. alloc1 ! (λ l₂. alloc1 ! (λ l₃. alloc1 ! (λ l₄. alloc1 ! (λ l₅. alloc1 ! (λ l₆. alloc1 ! (λ l₇. alloc1 ! (λ l₈. alloc1 ! (λ l₉. alloc1 ! (λ l₁₀. alloc1 ! (λ l₁₁. alloc0 ! $ params1 ! $
       pass1 ! (init ! 20 refl (shr-slice-lawful 𝓤 H A W (named 0) κ u16 .typed d₁ (v₁ ∷ []) p₁ .0)) $
       pass1 ! (init ! 18 refl (shr-slice-lawful 𝓤 H A W (named 0) κ u16 .typed d₂ (v₂ ∷ []) p₂ .0)) $
@@ -328,13 +337,22 @@ module _ {M : Type 1} (𝓤 : URA M) (H : Heap 𝓤) (A : Atoms 𝓤) (W : Given
 
 module _ {M : Type 1} (𝓤 : URA M) (H : Heap 𝓤) (A : Atoms 𝓤) (W : Given 𝓤 H A) (mem : Memory → SProp 𝓤) (run : Routine → Fun 𝓤) where
   out-walks : (𝓣 : Tables 𝓤 H) → Triple 𝓤 (𝓣 .C #records·member-of) (MemberOf 𝓤 H A mem run) → Walks 𝓤 H A f.ended stayed (WpFn 𝓤 H (𝓣 .C) (𝓣 .Λ) code.function) (f.clauses 𝓤 H A mem run)
-  out-walks 𝓣 known = walked 𝓤 H A f.ended stayed (f.clauses 𝓤 H A mem run) (WpFn 𝓤 H (𝓣 .C) (𝓣 .Λ) code.function) (λ κs. (slice-vals, (slice-vals, (slice-vals, (slice-vals, (slice-vals, (slice-vals, tt))))))) (λ κs. (shr-slice-tells (named 0) (κs .0) u16, (shr-slice-tells (named 0) (κs .0) u16, (shr-slice-tells (named 0) (κs .0) u16, (shr-slice-tells (named 0) (κs .0) u32, (shr-slice-tells (named 0) (κs .0) u16, (mut-slice-tells (named 1) (κs .1 .0) R, tt)))))))
+  out-walks 𝓣 known = walked 𝓤 H A f.ended stayed (f.clauses 𝓤 H A mem run) (WpFn 𝓤 H (𝓣 .C) (𝓣 .Λ) code.function) (λ κs. (slice-vals, (slice-vals, (slice-vals, (slice-vals, (slice-vals, (slice-vals, tt)))))))
+      (λ κs. (shr-slice-tells (named 0) (κs .0) u16, (shr-slice-tells (named 0) (κs .0) u16, (shr-slice-tells (named 0) (κs .0) u16, (shr-slice-tells (named 0) (κs .0) u32, (shr-slice-tells (named 0) (κs .0) u16, (mut-slice-tells (named 1) (κs .1 .0) R, tt)))))))
       (λ κs qs bounds a g are. via 𝓤 _ (fst∗ 𝓤 _ (emp 𝓤))
-      (walk 𝓤 H A W mem run (κs .0) (κs .1 .0) (qs .0) (qs .1 .0) (a .0) (a .1 .0) (a .1 .1 .0) (a .1 .1 .1 .0) (a .1 .1 .1 .1 .0) (a .1 .1 .1 .1 .1 .0 .ptr .0) (a .1 .1 .1 .1 .1 .0 .ptr .1) (a .1 .1 .1 .1 .1 .0 .name) (a .1 .1 .1 .1 .1 .0 .now) 𝓣 known (are .0) (are .1 .0) (are .1 .1 .0) (are .1 .1 .1 .0) (are .1 .1 .1 .1 .0) (are .1 .1 .1 .1 .1 .0 .0 .1)))
+      (walk 𝓤 H A W mem run (κs .0) (κs .1 .0) (qs .0) (qs .1 .0) (a .0) (a .1 .0) (a .1 .1 .0) (a .1 .1 .1 .0) (a .1 .1 .1 .1 .0) (a .1 .1 .1 .1 .1 .0 .ptr .0) (a .1 .1 .1 .1 .1 .0 .ptr .1) (a .1 .1 .1 .1 .1 .0 .name) (a .1 .1 .1 .1 .1 .0 .now) 𝓣 known (are .0) (are .1 .0) (are .1 .1 .0)
+      (are .1 .1 .1 .0) (are .1 .1 .1 .1 .0) (are .1 .1 .1 .1 .1 .0 .0 .1)))
 
 out-meets : {M : Type 1} (𝓤 : URA M) (H : Heap 𝓤) (A : Atoms 𝓤) (W : Given 𝓤 H A) (mem : Memory → SProp 𝓤) (run : Routine → Fun 𝓤) (𝓣 : Tables 𝓤 H) → Triple 𝓤 (𝓣 .C #records·member-of) (MemberOf 𝓤 H A mem run)
     → Meets 𝓤 H A f.signature (WpFn 𝓤 H (𝓣 .C) (𝓣 .Λ) code.function) (f.spec 𝓤 H A mem run)
-out-meets 𝓤 H A W mem run 𝓣 known = walk-meets 𝓤 H A f.ended stayed W (goes-none-slice 𝓤 H A W 2 (0 ∷ []) tt (plain (λ _. u16)) yes, (goes-none-slice 𝓤 H A W 2 (0 ∷ []) tt (plain (λ _. u16)) yes, (goes-none-slice 𝓤 H A W 2 (0 ∷ []) tt (plain (λ _. u16)) yes, (goes-none-slice 𝓤 H A W 2 (0 ∷ []) tt (plain (λ _. u32)) yes, (goes-none-slice 𝓤 H A W 2 (0 ∷ []) tt (plain (λ _. u16)) yes, (goes-slice 𝓤 H A W 2 1 tt (plain (λ _. R)), tt)))))) (f.clauses 𝓤 H A mem run) (WpFn 𝓤 H (𝓣 .C) (𝓣 .Λ) code.function) (WpFn-mono 𝓤 H (W .laws) 𝓣 code.function) (out-walks 𝓤 H A W mem run 𝓣 known)
+out-meets 𝓤 H A W mem run 𝓣 known = walk-meets 𝓤 H A f.ended stayed W (
+  goes-none-slice 𝓤 H A W 2 (0 ∷ []) tt (plain (λ _. u16)) yes,
+  (
+    goes-none-slice 𝓤 H A W 2 (0 ∷ []) tt (plain (λ _. u16)) yes,
+    (goes-none-slice 𝓤 H A W 2 (0 ∷ []) tt (plain (λ _. u16)) yes, (goes-none-slice 𝓤 H A W 2 (0 ∷ []) tt (plain (λ _. u32)) yes, (goes-none-slice 𝓤 H A W 2 (0 ∷ []) tt (plain (λ _. u16)) yes, (goes-slice 𝓤 H A W 2 1 tt (plain (λ _. R)), tt)))),
+  ),
+) (f.clauses 𝓤 H A mem run)
+    (WpFn 𝓤 H (𝓣 .C) (𝓣 .Λ) code.function) (WpFn-mono 𝓤 H (W .laws) 𝓣 code.function) (out-walks 𝓤 H A W mem run 𝓣 known)
 
 pub member-records-spec : {M : Type 1} → stated.statement M
 unfolding code.routine tablesOf

@@ -4,9 +4,6 @@ use borrow.Author.Needs.{needs}
 use Rattle.script.proofs.cut.Statement.{statement}
 use Rattle.script.proofs.cut.Tie as tie
 
-length-to-requires : tie.Need-length-to-requires
-length-to-requires c κs = search needs
-
 slice-aggregate-result : tie.Need-slice-aggregate-result
 slice-aggregate-result c = counted _ _ (c .before .length-to .ensures .1)
 
@@ -14,4 +11,4 @@ returns : tie.Need-returns
 returns c = rw (← c .before .length-to .ensures .0)
 
 pub cut-spec : {M : Type 1} → statement M
-cut-spec = tie.close (tie.spec length-to-requires slice-aggregate-result returns)
+cut-spec = tie.close (tie.spec (λ c κs. search needs) slice-aggregate-result returns)

@@ -7,11 +7,8 @@ use Rattle.script.proofs.is_asked.Tie as tie
 returns : tie.Need-returns
 returns c = asked-none _ (c .if1 .taken)
 
-shared-slice-read-result : tie.Need-shared-slice-read-result
-shared-slice-read-result c = search needs
-
 returns-2 : tie.Need-returns-2
 returns-2 c = asked-some _ (c .before .if1 .left)
 
 pub is-asked-spec : {M : Type 1} → statement M
-is-asked-spec = tie.close (tie.spec returns shared-slice-read-result returns-2)
+is-asked-spec = tie.close (tie.spec returns (λ c. search needs) returns-2)

@@ -5,12 +5,6 @@ use borrow.Author.Needs.{needs}
 use Rattle.script.proofs.join.Statement.{statement}
 use Rattle.script.proofs.join.Tie as tie
 
-mul-result : tie.Need-mul-result
-mul-result c = search needs
-
-add-result : tie.Need-add-result
-add-result c = search needs
-
 returns : tie.Need-returns
 unfolding joined
 returns c = simp (lt-ltb _ _ (c .before .if1 .taken), lt-ltb _ _ (c .if2 .taken))
@@ -24,4 +18,4 @@ unfolding joined
 returns-3 c = simp (le-ltb _ _ (c .if1 .left))
 
 pub join-spec : {M : Type 1} → statement M
-join-spec = tie.close (tie.spec mul-result add-result returns returns-2 returns-3)
+join-spec = tie.close (tie.spec (λ c. search needs) (λ c. search needs) returns returns-2 returns-3)

@@ -15,15 +15,6 @@ abbrev μ-loop : tie.MeasureT-loop
 loop-holds : tie.Need-loop-holds Inv-loop μ-loop
 loop-holds c = refl
 
-after-requires : tie.Need-after-requires Inv-loop μ-loop
-after-requires c κs = search needs
-
-sub-left : tie.Need-sub-left Inv-loop μ-loop
-sub-left c = search needs
-
-loop-less : tie.Need-loop-less Inv-loop μ-loop
-loop-less c = search needs
-
 loop-again : tie.Need-loop-again Inv-loop μ-loop
 loop-again c =
     let h = c .before .loop-test .taken in
@@ -37,4 +28,4 @@ returns c =
 pub word-start-spec : {M : Type 1} → statement M
 word-start-spec =
     tie.close
-    (tie.spec Inv-loop μ-loop loop-holds after-requires sub-left loop-less loop-again returns)
+    (tie.spec Inv-loop μ-loop loop-holds (λ c κs. search needs) (λ c. search needs) (λ c. search needs) loop-again returns)

@@ -9,15 +9,6 @@ use Rattle.text.proofs.is_escape.Tie as tie
 returns : tie.Need-returns
 returns c = sym (escape-short _ (c .if1 .taken))
 
-shared-slice-read-if2 : tie.Need-shared-slice-read-if2
-shared-slice-read-if2 c = search needs
-
-shared-slice-read-is-escaped : tie.Need-shared-slice-read-is-escaped
-shared-slice-read-is-escaped c = search needs
-
-is-escaped-requires : tie.Need-is-escaped-requires
-is-escaped-requires c κs = search needs
-
 returns-2 : tie.Need-returns-2
 returns-2 c = let h = c .before .before .before .before .if1 .left in simp (escape-long, eq-eqb _ _ (c .before .before .if2 .taken), ← c .is-escaped .ensures)
 
@@ -29,8 +20,8 @@ is-escape-spec =
     tie.close
     (tie.spec
     returns
-    shared-slice-read-if2
-    shared-slice-read-is-escaped
-    is-escaped-requires
+    (λ c. search needs)
+    (λ c. search needs)
+    (λ c κs. search needs)
     returns-2
     returns-3)

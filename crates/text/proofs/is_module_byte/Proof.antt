@@ -9,9 +9,6 @@ returns : tie.Need-returns
 unfolding moduleByte
 returns c = simp (lt-leb _ _ (c .if1 .taken))
 
-is-escaped-requires : tie.Need-is-escaped-requires
-is-escaped-requires c κs = search needs
-
 returns-2 : tie.Need-returns-2
 unfolding moduleByte
 returns-2 c = simp (le-leb _ _ (c .before .before .if1 .left), ← c .before .is-escaped .ensures, c .if2 .taken)
@@ -21,4 +18,4 @@ unfolding moduleByte
 returns-3 c = simp (le-leb _ _ (c .before .before .if1 .left), ← c .before .is-escaped .ensures, c .if2 .left)
 
 pub is-module-byte-spec : {M : Type 1} → statement M
-is-module-byte-spec = tie.close (tie.spec returns is-escaped-requires returns-2 returns-3)
+is-module-byte-spec = tie.close (tie.spec returns (λ c κs. search needs) returns-2 returns-3)

@@ -3,17 +3,11 @@ use borrow.Author.Needs.{needs}
 use Rattle.text.proofs.is_name_char.Statement.{statement}
 use Rattle.text.proofs.is_name_char.Tie as tie
 
-is-valid-unqualified-method-char-requires : tie.Need-is-valid-unqualified-method-char-requires
-is-valid-unqualified-method-char-requires c κs = search needs
-
 returns : tie.Need-returns
 returns c = simp (c .before .if1 .taken) (c .is-valid-unqualified-method-char .ensures)
-
-is-valid-unqualified-char-requires : tie.Need-is-valid-unqualified-char-requires
-is-valid-unqualified-char-requires c κs = search needs
 
 returns-2 : tie.Need-returns-2
 returns-2 c = simp (c .before .if1 .left) (c .is-valid-unqualified-char .ensures)
 
 pub is-name-char-spec : {M : Type 1} → statement M
-is-name-char-spec = tie.close (tie.spec is-valid-unqualified-method-char-requires returns is-valid-unqualified-char-requires returns-2)
+is-name-char-spec = tie.close (tie.spec (λ c κs. search needs) returns (λ c κs. search needs) returns-2)

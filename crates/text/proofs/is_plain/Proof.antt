@@ -6,9 +6,6 @@ use borrow.Author.Needs.{needs}
 use Rattle.text.proofs.is_plain.Statement.{statement}
 use Rattle.text.proofs.is_plain.Tie as tie
 
-plain-length-requires : tie.Need-plain-length-requires
-plain-length-requires c κs = search needs
-
 returns : tie.Need-returns
 unfolding plain
 returns c = simp (lt-ltb _ _ (c .before .if1 .taken), none-before, ← c .plain-length .ensures)
@@ -18,4 +15,4 @@ unfolding plain
 returns-2 c = simp (le-ltb _ _ (c .if1 .left))
 
 pub is-plain-spec : {M : Type 1} → statement M
-is-plain-spec = tie.close (tie.spec plain-length-requires returns returns-2)
+is-plain-spec = tie.close (tie.spec (λ c κs. search needs) returns returns-2)

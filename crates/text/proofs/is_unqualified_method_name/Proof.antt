@@ -5,22 +5,13 @@ use borrow.Author.Needs.{needs}
 use Rattle.text.proofs.is_unqualified_method_name.Statement.{statement}
 use Rattle.text.proofs.is_unqualified_method_name.Tie as tie
 
-is-allowed-init-requires : tie.Need-is-allowed-init-requires
-is-allowed-init-requires c κs = search needs
-
 returns : tie.Need-returns
 unfolding methodName
 returns c = simp (← c .before .is-allowed-init .ensures, c .if1 .taken)
 
-is-clinit-requires : tie.Need-is-clinit-requires
-is-clinit-requires c κs = search needs
-
 returns-2 : tie.Need-returns-2
 unfolding methodName
 returns-2 c = simp (← c .before .before .before .is-allowed-init .ensures, c .before .before .if1 .left, ← c .before .is-clinit .ensures, c .if2 .taken)
-
-is-plain-requires : tie.Need-is-plain-requires
-is-plain-requires c κs = search needs
 
 returns-3 : tie.Need-returns-3
 unfolding methodName
@@ -30,9 +21,9 @@ pub is-unqualified-method-name-spec : {M : Type 1} → statement M
 is-unqualified-method-name-spec =
     tie.close
     (tie.spec
-    is-allowed-init-requires
+    (λ c κs. search needs)
     returns
-    is-clinit-requires
+    (λ c κs. search needs)
     returns-2
-    is-plain-requires
+    (λ c κs. search needs)
     returns-3)

@@ -4,12 +4,9 @@ use borrow.Author.Needs.{needs}
 use Rattle.text.proofs.is_unqualified_name.Statement.{statement}
 use Rattle.text.proofs.is_unqualified_name.Tie as tie
 
-is-plain-requires : tie.Need-is-plain-requires
-is-plain-requires c κs = search needs
-
 returns : tie.Need-returns
 unfolding plain unqualified
 returns c = c .is-plain .ensures
 
 pub is-unqualified-name-spec : {M : Type 1} → statement M
-is-unqualified-name-spec = tie.close (tie.spec is-plain-requires returns)
+is-unqualified-name-spec = tie.close (tie.spec (λ c κs. search needs) returns)

@@ -13,12 +13,9 @@ returns-2 : tie.Need-returns-2
 unfolding oneOf
 returns-2 c = simp (ne-eqb _ _ (c .before .if1 .left), eq-eqb _ _ (c .if2 .taken))
 
-is-valid-unqualified-char-requires : tie.Need-is-valid-unqualified-char-requires
-is-valid-unqualified-char-requires c κs = search needs
-
 returns-3 : tie.Need-returns-3
 unfolding oneOf
 returns-3 c = simp (ne-eqb _ _ (c .before .before .if1 .left), ne-eqb _ _ (c .before .if2 .left)) (c .is-valid-unqualified-char .ensures)
 
 pub is-valid-unqualified-method-char-spec : {M : Type 1} → statement M
-is-valid-unqualified-method-char-spec = tie.close (tie.spec returns returns-2 is-valid-unqualified-char-requires returns-3)
+is-valid-unqualified-method-char-spec = tie.close (tie.spec returns returns-2 (λ c κs. search needs) returns-3)

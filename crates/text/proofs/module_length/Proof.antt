@@ -18,18 +18,6 @@ abbrev μ-loop : tie.MeasureT-loop
 loop-holds : tie.Need-loop-holds Inv-loop μ-loop
 loop-holds c = start moduleForm module-in _
 
-sub-module-form : tie.Need-sub-module-form Inv-loop μ-loop
-sub-module-form c = search needs
-
-part-module-form-start : tie.Need-part-module-form-start Inv-loop μ-loop
-part-module-form-start c = search needs
-
-part-module-form-end : tie.Need-part-module-form-end Inv-loop μ-loop
-part-module-form-end c = search needs
-
-module-form-requires : tie.Need-module-form-requires Inv-loop μ-loop
-module-form-requires c κs = search needs
-
 returns : tie.Need-returns Inv-loop μ-loop
 returns c = stop moduleForm module-in _ _ _ (c .before .before .before .before .loop .inv) (rw part at (c .before .module-form .ensures)) (c .if1 .taken)
 
@@ -56,10 +44,10 @@ module-length-spec =
     Inv-loop
     μ-loop
     loop-holds
-    sub-module-form
-    part-module-form-start
-    part-module-form-end
-    module-form-requires
+    (λ c. search needs)
+    (λ c. search needs)
+    (λ c. search needs)
+    (λ c κs. search needs)
     returns
     add-i
     loop-less

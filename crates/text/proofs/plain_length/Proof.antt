@@ -20,26 +20,16 @@ abbrev μ-loop : tie.MeasureT-loop
 loop-holds : tie.Need-loop-holds Inv-loop μ-loop
 loop-holds c = (omega arith, zero-add _)
 
-shared-slice-read-is-name-char : tie.Need-shared-slice-read-is-name-char Inv-loop μ-loop
-shared-slice-read-is-name-char c = search needs
-
-is-name-char-requires : tie.Need-is-name-char-requires Inv-loop μ-loop
-is-name-char-requires c κs = search needs
-
 returns : tie.Need-returns Inv-loop μ-loop
 returns c =
-    let u = before-stop (c .before .before .before .before .before .before .args .s .now) (c .before .before .before .before .loop .i) (nameMarks (c .before .before .before .before .before .before .args .in-method)) (c .before .before .before .loop-test .taken) (sym (c .before .is-name-char .ensures) ∙ not-true (c .before .is-name-char .result) (c .if1 .taken)) in
+    let u = before-stop (c .before .before .before .before .before .before .args .s .now) (c .before .before .before .before .loop .i) (nameMarks (c .before .before .before .before .before .before .args .in-method)) (c .before .before .before .loop-test .taken)
+    (sym (c .before .is-name-char .ensures) ∙ not-true (c .before .is-name-char .result) (c .if1 .taken)) in
     omega arith
-
-add-i : tie.Need-add-i Inv-loop μ-loop
-add-i c = search needs
-
-loop-less : tie.Need-loop-less Inv-loop μ-loop
-loop-less c = search needs
 
 loop-again : tie.Need-loop-again Inv-loop μ-loop
 loop-again c =
-    let u = before-go (c .before .before .before .before .before .before .args .s .now) (c .before .before .before .before .loop .i) (nameMarks (c .before .before .before .before .before .before .args .in-method)) (c .before .before .before .loop-test .taken) (sym (c .before .is-name-char .ensures) ∙ not-false (c .before .is-name-char .result) (c .if1 .left)) in
+    let u = before-go (c .before .before .before .before .before .before .args .s .now) (c .before .before .before .before .loop .i) (nameMarks (c .before .before .before .before .before .before .args .in-method)) (c .before .before .before .loop-test .taken)
+    (sym (c .before .is-name-char .ensures) ∙ not-false (c .before .is-name-char .result) (c .if1 .left)) in
     (omega arith, omega arith)
 
 returns-2 : tie.Need-returns-2 Inv-loop μ-loop
@@ -55,10 +45,10 @@ plain-length-spec =
     Inv-loop
     μ-loop
     loop-holds
-    shared-slice-read-is-name-char
-    is-name-char-requires
+    (λ c. search needs)
+    (λ c κs. search needs)
     returns
-    add-i
-    loop-less
+    (λ c. search needs)
+    (λ c. search needs)
     loop-again
     returns-2)

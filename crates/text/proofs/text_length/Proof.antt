@@ -18,9 +18,6 @@ abbrev μ-loop : tie.MeasureT-loop
 loop-holds : tie.Need-loop-holds Inv-loop μ-loop
 loop-holds c = start textForm text-in _
 
-form-at-requires : tie.Need-form-at-requires Inv-loop μ-loop
-form-at-requires c κs = search needs
-
 returns : tie.Need-returns Inv-loop μ-loop
 returns c = stop textForm text-in _ _ _ (c .before .before .before .loop .inv) (c .before .form-at .ensures) (c .if1 .taken)
 
@@ -47,7 +44,7 @@ text-length-spec =
     Inv-loop
     μ-loop
     loop-holds
-    form-at-requires
+    (λ c κs. search needs)
     returns
     add-i
     loop-less

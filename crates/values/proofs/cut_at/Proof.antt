@@ -3,8 +3,6 @@ use Rattle.values.specs.Lookups.{cut}
 use borrow.Author.Tests.{le-leb, lt-leb}
 use Rattle.values.proofs.cut_at.Statement.{statement}
 use Rattle.values.proofs.cut_at.Tie as tie
-use Rattle.values.proofs.cut_at.Reads as reads
-use Rattle.values.proofs.cut_at.Lts as lts
 
 returns : tie.Need-returns
 unfolding cut

@@ -6,22 +6,6 @@ use Rattle.handed.proofs.Handed.{on-handed, off-handed}
 use borrow.Author.Needs.{needs}
 use Rattle.values.proofs.literal.Statement.{statement}
 use Rattle.values.proofs.literal.Tie as tie
-use Rattle.values.proofs.literal.Reads as reads
-use Rattle.values.proofs.literal.Lts as lts
-use Rattle.handed.proofs.check_handed.Reads as check-handed-reads
-use Rattle.values.proofs.literal_at.Reads as literal-at-reads
-
-check-handed-requires : tie.Need-check-handed-requires
-check-handed-requires c κs = search needs
-
-enum-known-r : tie.Need-enum-known-r
-enum-known-r c = search needs
-
-enum-known-h : tie.Need-enum-known-h
-enum-known-h c = search needs
-
-literal-at-requires : tie.Need-literal-at-requires
-literal-at-requires c κs = search needs
 
 returns : tie.Need-returns
 returns c = off-handed _ _ _ _ _ (got readingPool (c .before .r .given .1) (c .before .before .before .check-handed .ensures))
@@ -33,9 +17,9 @@ pub literal-spec : {M : Type 1} → statement M
 literal-spec =
     tie.close
     (tie.spec
-    check-handed-requires
-    enum-known-r
-    enum-known-h
-    literal-at-requires
+    (λ c κs. search needs)
+    (λ c. search needs)
+    (λ c. search needs)
+    (λ c κs. search needs)
     returns
     returns-2)

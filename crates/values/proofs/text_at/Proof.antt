@@ -3,30 +3,10 @@ use borrow.Author.Needs.{needs}
 use Rattle.values.specs.Lookups.{textAt}
 use Rattle.values.proofs.text_at.Statement.{statement}
 use Rattle.values.proofs.text_at.Tie as tie
-use Rattle.values.proofs.text_at.Reads as reads
-use Rattle.values.proofs.text_at.Lts as lts
-use Rattle.handed.proofs.check_asked.Reads as check-asked-reads
-use Rattle.slot.proofs.bytes_of.Reads as bytes-of-reads
-use Rattle.text.proofs.is_text.Reads as is-text-reads
-
-check-asked-requires : tie.Need-check-asked-requires
-check-asked-requires c κs = search needs
-
-enum-known-r : tie.Need-enum-known-r
-enum-known-r c = search needs
 
 returns : tie.Need-returns
 unfolding textAt
 returns c = simp (← c .before .before .before .check-asked .ensures, c .before .r .given .1)
-
-enum-told : tie.Need-enum-told
-enum-told c = search needs
-
-bytes-of-requires : tie.Need-bytes-of-requires
-bytes-of-requires c κs = search needs
-
-is-text-requires : tie.Need-is-text-requires
-is-text-requires c κs = search needs
 
 returns-2 : tie.Need-returns-2
 unfolding textAt
@@ -40,11 +20,11 @@ pub text-at-spec : {M : Type 1} → statement M
 text-at-spec =
     tie.close
     (tie.spec
-    check-asked-requires
-    enum-known-r
+    (λ c κs. search needs)
+    (λ c. search needs)
     returns
-    enum-told
-    bytes-of-requires
-    is-text-requires
+    (λ c. search needs)
+    (λ c κs. search needs)
+    (λ c κs. search needs)
     returns-2
     returns-3)

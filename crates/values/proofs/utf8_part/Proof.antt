@@ -8,12 +8,6 @@ use Rattle.values.proofs.Parts.{part}
 use borrow.Author.Needs.{needs}
 use Rattle.values.proofs.utf8_part.Statement.{statement}
 use Rattle.values.proofs.utf8_part.Tie as tie
-use Rattle.values.proofs.utf8_part.Reads as reads
-use Rattle.values.proofs.utf8_part.Lts as lts
-use Rattle.values.proofs.utf8_span.Reads as utf8-span-reads
-
-utf8-span-requires : tie.Need-utf8-span-requires
-utf8-span-requires c κs = search needs
 
 sub-result : tie.Need-sub-result
 sub-result c = part _ _ _ _ (c .utf8-span .ensures) .0
@@ -32,4 +26,4 @@ returns c =
 
 pub utf8-part-spec : {M : Type 1} → statement M
 utf8-part-spec =
-    tie.close (tie.spec utf8-span-requires sub-result part-result-start part-result-end returns)
+    tie.close (tie.spec (λ c κs. search needs) sub-result part-result-start part-result-end returns)

@@ -98,7 +98,8 @@ module _ {M : Type 1} (𝓤 : URA M) (H : Heap 𝓤) (A : Atoms 𝓤) (W : Given
 
 view-meets : {M : Type 1} (𝓤 : URA M) (H : Heap 𝓤) (A : Atoms 𝓤) → Given 𝓤 H A → (mem : Memory → SProp 𝓤) (run : Routine → Fun 𝓤) (𝓣 : Tables 𝓤 H)
     → Meets 𝓤 H A view.signature (WpFn 𝓤 H (𝓣 .C) (𝓣 .Λ) code.function) (view.spec 𝓤 H A mem run)
-view-meets 𝓤 H A W mem run 𝓣 = walk-meets 𝓤 H A view.ended stayed W (goes-none-slice 𝓤 H A W 1 (0 ∷ []) tt (plain (λ _. u8)) yes, (goes-none-slice 𝓤 H A W 1 (0 ∷ []) tt (plain (λ _. u32)) yes, tt)) (view.clauses 𝓤 H A mem run) (WpFn 𝓤 H (𝓣 .C) (𝓣 .Λ) code.function) (WpFn-mono 𝓤 H (W .laws) 𝓣 code.function) (view-walks 𝓤 H A W mem run (𝓣 .C) (𝓣 .Λ))
+view-meets 𝓤 H A W mem run 𝓣 = walk-meets 𝓤 H A view.ended stayed W (goes-none-slice 𝓤 H A W 1 (0 ∷ []) tt (plain (λ _. u8)) yes, (goes-none-slice 𝓤 H A W 1 (0 ∷ []) tt (plain (λ _. u32)) yes, tt)) (view.clauses 𝓤 H A mem run) (WpFn 𝓤 H (𝓣 .C) (𝓣 .Λ) code.function)
+    (WpFn-mono 𝓤 H (W .laws) 𝓣 code.function) (view-walks 𝓤 H A W mem run (𝓣 .C) (𝓣 .Λ))
 
 pub view-spec : {M : Type 1} → stated.statement M
 unfolding code.routine tablesOf

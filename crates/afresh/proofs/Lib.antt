@@ -1,4 +1,0 @@
-pub mod Rooms
-pub mod Bytes
-pub mod Gate
-pub mod Once

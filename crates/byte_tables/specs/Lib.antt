@@ -1,0 +1,2 @@
+pub mod Afresh
+pub mod Enough

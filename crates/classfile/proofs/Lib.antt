@@ -1,3 +1,0 @@
-pub mod Stages
-pub mod Classes
-pub mod Once

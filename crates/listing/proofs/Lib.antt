@@ -1,0 +1,4 @@
+pub mod Filling
+pub mod Edge
+pub mod Agree
+pub mod Along

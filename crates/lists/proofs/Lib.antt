@@ -1,2 +1,0 @@
-pub mod Rooms
-pub mod Once

@@ -1,0 +1,15 @@
+-- `loader::luo_dynamic32` meets its contract. Assumes nothing.
+use borrow.Author.Needs.{needs}
+use mathlib.Core.Path.{refl}
+use Rattle.lookups.specs.Lookups.{dynamicAt}
+use Rattle.questions.specs.Replies.{indexedValues}
+use Rattle.numbers.specs.Numbers.{dynamicOf, dynamicNumbers}
+use Rattle.loader.proofs.Thin.{through, plain}
+use Rattle.loader.proofs.luo_dynamic32.Statement.{statement}
+use Rattle.loader.proofs.luo_dynamic32.Tie as tie
+
+returns : tie.Need-returns
+returns c = through dynamicOf indexedValues dynamicNumbers (plain _ _ _ (λ a. refl) (λ nr place. refl)) (dynamicAt (c .before .before .before .before .args .slot)) _ _ _ _ (c .dynamic-answer .ensures) (c .before .answer .ensures)
+
+pub luo-dynamic32-spec : {M : Type 1} → statement M
+luo-dynamic32-spec = tie.close (tie.spec (λ c κs. search needs) (λ c κs. search needs) returns)

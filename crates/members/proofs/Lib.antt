@@ -1,2 +1,0 @@
-pub mod Both
-pub mod Once

@@ -1,3 +1,0 @@
-pub mod Members
-pub mod Lent
-pub mod Readings

@@ -1,3 +1,0 @@
-pub mod Sorts
-pub mod Lent
-pub mod Readings

@@ -1,3 +1,0 @@
-pub mod Own
-pub mod Tabled
-pub mod Once
