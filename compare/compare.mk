@@ -34,6 +34,7 @@ ifeq ($(LINK),)
 	@compare/build
 	@compare/packs 1 1
 	@build/compare/compare bench packs=build/compare/jdk-1-1.pack
+	@build/compare/compare worst
 else
 	@echo "bench: left out: the library runs under an emulator here, and a time measured so says nothing of it"
 endif

@@ -15,8 +15,8 @@ public final class Thermistor {
     /** When the table was calibrated, in milliseconds. */
     public static final long CALIBRATED_AT = 1_762_300_800_123L;
 
-    private static final double[] OHM = {32_650.5, 19_900.25, 12_490.75, 8_057.5, 5_327.125, 3_603.0, 2_488.5, 1_752.25};
-    private static final double[] CELSIUS = {0.25, 10.25, 20.25, 30.25, 40.25, 50.25, 60.25, 70.25};
+    private static final double[] OHM = {32_650.5, 19_900.25, 12_490.75, 8_057.5, 5_327.125, 3_603.0, 2_488.5, 1_752.25}; // filled by code: no constants
+    private static final double[] CELSIUS = {0.25, 10.25, 20.25, 30.25, 40.25, 50.25, 60.25, 70.25}; // Curve.java has a table that a loader can take
 
     private Thermistor() {
     }

@@ -41,6 +41,25 @@ static void put_utf8(FILE *f, uint32_t c) {
     }
 }
 
+/* Whether a character does not print, or turns or hides what stands around it: controls, marks of direction, joiners, tags, surrogates. */
+static bool is_hidden(uint32_t c) {
+    static const struct {
+        uint32_t first, last;
+    } hidden[] = {{0, 0x1F},          {0x7F, 0x9F},     {0xAD, 0xAD},     {0x61C, 0x61C},   {0x180E, 0x180E},  {0x200B, 0x200F},
+                  {0x2028, 0x202E},   {0x2060, 0x206F}, {0xD800, 0xDFFF}, {0xFEFF, 0xFEFF}, {0xFFF9, 0xFFFB},  {0xE0000, 0xE0FFF}};
+    for (size_t i = 0; i < sizeof hidden / sizeof *hidden; i++)
+        if (hidden[i].first <= c && c <= hidden[i].last) return true;
+    return false;
+}
+
+/* By its UTF-16 units, as Java and JSON do. */
+static void put_escaped(FILE *f, uint32_t c) {
+    if (c < 0x10000)
+        fprintf(f, "\\u%04X", c);
+    else
+        fprintf(f, "\\u%04X\\u%04X", 0xD800 + ((c - 0x10000) >> 10), 0xDC00 + ((c - 0x10000) & 0x3FF));
+}
+
 /* One character between quotes, escaped the same way for a person and for JSON. */
 static void put_character(FILE *f, uint32_t c) {
     switch (c) {
@@ -51,8 +70,8 @@ static void put_character(FILE *f, uint32_t c) {
     case '\t': fputs("\\t", f); return;
     default: break;
     }
-    if (c < 0x20 || (0x7F <= c && c < 0xA0) || c == 0x2028 || c == 0x2029 || (0xD800 <= c && c < 0xE000) || c == 0xFEFF)
-        fprintf(f, "\\u%04X", c);
+    if (is_hidden(c))
+        put_escaped(f, c);
     else
         put_utf8(f, c);
 }
@@ -98,18 +117,80 @@ void out_json_text(FILE *f, const uint8_t *bytes, size_t length) {
     fputc('"', f);
 }
 
-void out_json_path(FILE *f, const char *path) {
+/* ---- paths: bytes that the system does not hold to UTF-8 */
+
+/* The character that UTF-8 has at a byte, and how many bytes it takes; 0 where none begins there. */
+static size_t point_at(const uint8_t *b, uint32_t *point) {
+    uint8_t x = b[0];
+    size_t more = x < 0x80 ? 0 : (x & 0xE0) == 0xC0 ? 1 : (x & 0xF0) == 0xE0 ? 2 : (x & 0xF8) == 0xF0 ? 3 : 4;
+    static const uint32_t least[] = {0, 0x80, 0x800, 0x10000};
+    if (more == 4) return 0;
+    uint32_t c = more ? x & (0x3Fu >> more) : x;
+    for (size_t i = 1; i <= more; i++) {
+        if ((b[i] & 0xC0) != 0x80) return 0; /* also at the end of the path */
+        c = c << 6 | (b[i] & 0x3F);
+    }
+    if (c < least[more] || 0x10FFFF < c || (0xD800 <= c && c < 0xE000)) return 0;
+    *point = c;
+    return more + 1;
+}
+
+/* Whether a path is UTF-8, and whether all of it prints. */
+static bool is_utf8(const char *path, bool *prints) {
+    const uint8_t *b = (const uint8_t *)path;
+    uint32_t c = 0;
+    *prints = *b != '"';
+    for (size_t n; *b; b += n) {
+        n = point_at(b, &c);
+        if (!n) return false;
+        if (is_hidden(c)) *prints = false;
+    }
+    return true;
+}
+
+static void put_path(FILE *f, const char *path) {
+    const uint8_t *b = (const uint8_t *)path;
     fputc('"', f);
-    for (const char *p = path; *p; p++) {
-        unsigned char c = (unsigned char)*p;
-        if (c == '"' || c == '\\')
-            fprintf(f, "\\%c", c);
-        else if (c < 0x20 || c == 0x7F)
-            fprintf(f, "\\u%04X", c);
+    while (*b) {
+        uint32_t c = 0;
+        size_t n = point_at(b, &c);
+        if (n)
+            put_character(f, c);
         else
-            fputc(c, f);
+            fprintf(f, "\\x%02X", *b);
+        b += n ? n : 1;
     }
     fputc('"', f);
+}
+
+void out_path(FILE *f, const char *path) {
+    bool prints = false;
+    if (is_utf8(path, &prints) && prints)
+        fputs(path, f);
+    else
+        put_path(f, path);
+}
+
+void out_json_path(FILE *f, const char *path) {
+    bool prints = false;
+    if (is_utf8(path, &prints)) {
+        put_path(f, path);
+        return;
+    }
+    fputs("{\"raw\": \"", f);
+    out_hex(f, (const uint8_t *)path, strlen(path));
+    fputs("\"}", f);
+}
+
+static bool in_lines;
+
+void out_in_lines(bool lines) { in_lines = lines; }
+
+void out_break(FILE *f, int spaces) {
+    if (in_lines)
+        fputc(' ', f);
+    else
+        fprintf(f, "\n%*s", spaces, "");
 }
 
 void out_json_open(FILE *f, const char *path) {
@@ -120,6 +201,31 @@ void out_json_open(FILE *f, const char *path) {
 void out_hex(FILE *f, const uint8_t *bytes, size_t length) {
     for (size_t i = 0; i < length; i++) fprintf(f, "%02X", bytes[i]);
 }
+
+/* ---- versions */
+
+/* The release of Java that a major version belongs to, written into `name`; empty for none. */
+static void java_name(char name[8], uint32_t major) {
+    name[0] = 0;
+    if (major < 45 || 143 < major) return;
+    snprintf(name, 8, major < 49 ? "1.%u" : "%u", (unsigned)(major - 44));
+}
+
+void out_version(FILE *f, uint32_t major, uint32_t minor) {
+    char name[8];
+    java_name(name, major);
+    fprintf(f, "%u.%u", major, minor);
+    if (name[0]) fprintf(f, " (Java %s%s)", name, 56 <= major && minor == 65535 ? " with preview features" : "");
+}
+
+void out_json_version(FILE *f, uint32_t major, uint32_t minor) {
+    char name[8];
+    java_name(name, major);
+    const char *quote = name[0] ? "\"" : "";
+    fprintf(f, "\"major\": %u, \"minor\": %u, \"java\": %s%s%s", major, minor, quote, name[0] ? name : "null", quote);
+}
+
+/* ---- floats */
 
 bool is_plain_float(uint32_t bits) { return (bits & 0x7F800000u) != 0x7F800000u; }
 

@@ -1,10 +1,9 @@
-/* Files: read whole into memory, and found below folders. */
+/* Files, read whole into memory. */
 #define _XOPEN_SOURCE 700
 #include "tool.h"
 
 #include <errno.h>
 #include <fcntl.h>
-#include <ftw.h>
 #include <stdlib.h>
 #include <string.h>
 #include <sys/stat.h>
@@ -19,129 +18,82 @@ void *must_allocate(size_t count, size_t size) {
     return memory;
 }
 
-static bool trouble(const char *path, const char *what) {
-    fprintf(stderr, "luohtemik: %s: %s\n", path, what);
-    return false;
+void say_trouble(const char *path, const char *why) {
+    fputs("luohtemik: ", stderr);
+    out_path(stderr, path);
+    fprintf(stderr, ": %s\n", why);
 }
 
-static bool ends_with(const char *text, const char *end) {
-    size_t n = strlen(text), k = strlen(end);
-    return k <= n && strcmp(text + n - k, end) == 0;
+/* What an archive is and how it is unpacked; null where it is none. A name that ends in .class is taken at its word. */
+static const char *archive_of(const source *s) {
+    static const uint8_t zip[] = {'P', 'K', 3, 4}, no_entries[] = {'P', 'K', 5, 6}, jmod[] = {'J', 'M', 1}, image[] = {0xDA, 0xDA, 0xFE, 0xCA};
+    if (s->size < 4 || ends_with(s->path, ".class")) return NULL;
+    if (memcmp(s->bytes, jmod, sizeof jmod) == 0) return "is a jmod; unpack it (jmod extract --dir FOLDER FILE) and name the folder";
+    if (memcmp(s->bytes, image, sizeof image) == 0) return "is a jimage; unpack it (jimage extract --dir=FOLDER FILE) and name the folder";
+    if (memcmp(s->bytes, zip, sizeof zip) != 0 && memcmp(s->bytes, no_entries, sizeof no_entries) != 0) return NULL;
+    if (ends_with(s->path, ".jar")) return "is a jar; unpack it (unzip -d FOLDER FILE) and name the folder";
+    return "is a zip archive; unpack it (unzip -d FOLDER FILE) and name the folder";
 }
 
-bool source_read(source *s, const char *path) {
-    s->path = path;
-    s->bytes = NULL;
-    s->size = 0;
-    int fd = open(path, O_RDONLY | O_CLOEXEC);
-    if (fd < 0) return trouble(path, strerror(errno));
+/* Why an open file is not one to read; null where it is. How much room it needs at first. */
+static const char *judge_file(int fd, bool found, size_t most, size_t *room) {
     struct stat st;
-    if (fstat(fd, &st) != 0) {
-        int why = errno;
-        close(fd);
-        return trouble(path, strerror(why));
-    }
-    if (S_ISDIR(st.st_mode)) {
-        close(fd);
-        return trouble(path, "is a folder; name a class file (the command 'check' takes folders too)");
-    }
-    size_t most = (size_t)LUO_MOST_BYTES + 1, room = most;
-    if (S_ISREG(st.st_mode) && (uint64_t)st.st_size < most) room = (size_t)st.st_size + 1;
-    uint8_t *bytes = must_allocate(room, 1);
-    size_t size = 0;
-    while (size < most) {
-        if (size == room) { /* it grew, or its size was not known */
+    if (fstat(fd, &st) != 0) return strerror(errno);
+    if (S_ISDIR(st.st_mode)) return "is a folder; name a class file (the command 'check' takes folders too)";
+    if (found && !S_ISREG(st.st_mode)) return "is a pipe, a device or a socket, no file";
+    *room = S_ISREG(st.st_mode) && (uint64_t)st.st_size < most ? (size_t)st.st_size + 1 : most;
+    return NULL;
+}
+
+static const char *read_all(source *s, int fd, size_t room, size_t most) {
+    s->bytes = must_allocate(room, 1);
+    while (s->size < most) {
+        if (s->size == room) { /* it grew since its size was asked for */
             room = room < most / 2 ? room * 2 : most;
-            uint8_t *more = realloc(bytes, room);
-            if (!more) {
-                free(bytes);
-                close(fd);
-                return trouble(path, "no memory to read it");
-            }
-            bytes = more;
+            uint8_t *more = realloc(s->bytes, room);
+            if (!more) return "no memory to read it";
+            s->bytes = more;
         }
-        ssize_t got = read(fd, bytes + size, room - size);
+        ssize_t got = read(fd, s->bytes + s->size, room - s->size);
         if (got < 0 && errno == EINTR) continue;
-        if (got < 0) {
-            int why = errno;
-            free(bytes);
-            close(fd);
-            return trouble(path, strerror(why));
-        }
+        if (got < 0) return strerror(errno);
         if (got == 0) break;
-        size += (size_t)got;
+        s->size += (size_t)got;
     }
-    close(fd);
-    if (size >= 2 && bytes[0] == 'P' && bytes[1] == 'K' && ends_with(path, ".jar")) {
-        free(bytes);
-        return trouble(path, "is a jar; extract it (unzip -d FOLDER FILE.jar) and name the folder");
+    return archive_of(s);
+}
+
+const char *source_read(source *s, const char *path, bool found) {
+    *s = (source){.path = path};
+    size_t most = (size_t)LUO_MOST_BYTES + 1, room = 0;
+    bool standard = !found && strcmp(path, "-") == 0;
+    /* a pipe in a folder may have no writer: it is opened without waiting for one */
+    int fd = standard ? STDIN_FILENO : open(path, O_RDONLY | O_CLOEXEC | (found ? O_NONBLOCK : 0));
+    if (fd < 0) return strerror(errno);
+    const char *why = judge_file(fd, found, most, &room);
+    if (!why) why = read_all(s, fd, room, most);
+    if (!standard) close(fd);
+    if (why) source_free(s);
+    return why;
+}
+
+bool source_take(source *s, const char *path, const options *o) {
+    progress_begin(1);
+    progress_at(0);
+    const char *why = source_read(s, path, false);
+    if (!why) return true;
+    progress_done();
+    say_trouble(path, why);
+    if (o->json) {
+        out_json_open(stdout, path);
+        fputs(", \"error\": ", stdout);
+        out_json_path(stdout, why);
+        fputs("}\n", stdout);
     }
-    s->bytes = bytes;
-    s->size = size;
-    return true;
+    return false;
 }
 
 void source_free(source *s) {
     free(s->bytes);
     s->bytes = NULL;
-}
-
-/* ---- listings */
-
-static listing *filling; /* nftw hands no context to its callback */
-static size_t filling_room;
-
-static void listing_add(listing *l, const char *path) {
-    if (l->count == filling_room) {
-        filling_room = filling_room ? filling_room * 2 : 64;
-        char **more = realloc(l->paths, filling_room * sizeof *more);
-        if (!more) {
-            fprintf(stderr, "luohtemik: no memory for %zu paths\n", filling_room);
-            exit(EXIT_TROUBLE);
-        }
-        l->paths = more;
-    }
-    char *copy = strdup(path);
-    if (!copy) {
-        fprintf(stderr, "luohtemik: no memory for a path\n");
-        exit(EXIT_TROUBLE);
-    }
-    l->paths[l->count++] = copy;
-}
-
-static int on_path(const char *path, const struct stat *st, int type, struct FTW *at) {
-    (void)st;
-    (void)at;
-    if (type == FTW_F && ends_with(path, ".class")) listing_add(filling, path);
-    if (type == FTW_DNR || type == FTW_NS) {
-        trouble(path, "cannot be looked into");
-        filling->troubles++;
-    }
-    return 0;
-}
-
-static int by_path(const void *a, const void *b) { return strcmp(*(char *const *)a, *(char *const *)b); }
-
-void listing_make(listing *l, char **names, size_t count) {
-    *l = (listing){0};
-    filling = l;
-    filling_room = 0;
-    for (size_t i = 0; i < count; i++) {
-        struct stat st;
-        if (stat(names[i], &st) == 0 && S_ISDIR(st.st_mode)) {
-            size_t first = l->count;
-            if (nftw(names[i], on_path, 32, FTW_PHYS) != 0) {
-                trouble(names[i], strerror(errno));
-                l->troubles++;
-            }
-            if (first < l->count) qsort(l->paths + first, l->count - first, sizeof *l->paths, by_path);
-        } else {
-            listing_add(l, names[i]);
-        }
-    }
-}
-
-void listing_free(listing *l) {
-    for (size_t i = 0; i < l->count; i++) free(l->paths[i]);
-    free(l->paths);
 }

@@ -14,7 +14,7 @@ extern "C" {
 }
 
 /// Seconds that this process has had a processor, so that other work on the machine counts less.
-fn processor_seconds() -> f64 {
+pub fn processor_seconds() -> f64 {
     let mut time = [0; 2];
     assert_eq!(unsafe { clock_gettime(2, &mut time) }, 0, "no clock of the process's time");
     time[0] as f64 + time[1] as f64 * 1e-9

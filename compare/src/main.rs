@@ -13,6 +13,7 @@ mod mutate;
 mod ours;
 mod planted;
 mod rng;
+mod worst;
 
 use cafebabe::{parse_class, ParseOptions};
 use check::{Case, Check, Effort};
@@ -64,13 +65,14 @@ fn main() {
         }
         "fixed" => fixed::run(&options["out"], number("seed", 1)),
         "bench" => bench::run(&packs, number("rounds", 15) as usize),
+        "worst" => worst::run(),
         "planted" => {
             let words: Vec<String> = options.iter().filter(|(k, _)| *k != "only").map(|(k, v)| format!("{k}={v}")).collect();
             planted::run("compare/planted.txt", options.get("only").map_or("", |s| s), &words)
         }
         "planted-code" => planted::code("build/compare/code", options.get("only").map_or("", |s| s)),
         "one" => one(&options["file"]),
-        other => panic!("compare, long, fixed, bench, planted, departures or one; not '{other}'"),
+        other => panic!("compare, long, fixed, bench, worst, planted, departures or one; not '{other}'"),
     };
     std::process::exit(if good { 0 } else { 1 });
 }

@@ -118,7 +118,7 @@ fn programs_of(name: &str) -> &'static [&'static str] {
         "descriptors" | "pool" | "slot" | "checks" => &["pool_vectors"],
         "handed" | "lookups" | "values" | "literal" => &["lookup_vectors"],
         "reach" | "dependants" => &["dependants_vectors"],
-        "bootstrap" | "attributes" | "member" | "header" | "members" | "tables" | "classfile" => &["class_vectors"],
+        "bootstrap" | "attributes" | "member" | "class_head" | "class" => &["class_vectors"],
         _ => &[],
     }
 }
@@ -137,18 +137,21 @@ fn replays(code: &Path, program: &str) -> bool {
 /// Edits of the code, in the folder `code` that has a copy of crates/ with the fixed list.
 pub fn code(code: &str, only: &str) -> bool {
     let root = Path::new(code);
-    let mut edits: Vec<std::path::PathBuf> = vec![];
+    let mut edits: Vec<(String, std::path::PathBuf)> = vec![];
     for entry in std::fs::read_dir(root.join("crates")).expect("crates") {
-        if let Ok(list) = std::fs::read_dir(entry.expect("a crate").path().join("must-fail")) {
-            edits.extend(list.filter_map(|e| e.ok()).map(|e| e.path()));
+        let entry = entry.expect("a crate");
+        // Those that the gate tries, and those that are set aside.
+        for part in ["must-fail", "must-fail/more"] {
+            let Ok(list) = std::fs::read_dir(entry.path().join(part)) else { continue };
+            let paths = list.filter_map(|e| e.ok()).map(|e| e.path()).filter(|p| p.extension().is_some_and(|x| x == "edit"));
+            edits.extend(paths.map(|p| (entry.file_name().to_string_lossy().to_string(), p)));
         }
     }
     edits.sort();
     let (mut tried, mut caught) = (0, 0);
     let mut fit: Vec<&str> = vec![];
-    for edit in edits.iter().filter(|e| e.to_string_lossy().contains(only)) {
-        let name = edit.parent().and_then(Path::parent).and_then(Path::file_name).expect("a crate").to_string_lossy().to_string();
-        let programs: Vec<&str> = programs_of(&name).iter().copied().filter(|p| root.join("crates").join(p).is_dir()).collect();
+    for (name, edit) in edits.iter().filter(|(_, e)| e.to_string_lossy().contains(only)) {
+        let programs: Vec<&str> = programs_of(name).iter().copied().filter(|p| root.join("crates").join(p).is_dir()).collect();
         if programs.is_empty() {
             continue;
         }
@@ -171,7 +174,7 @@ pub fn code(code: &str, only: &str) -> bool {
                 fit.push(program);
             }
         }
-        let file = root.join("crates").join(&name).join(&file[0]);
+        let file = root.join("crates").join(name).join(&file[0]);
         let whole = std::fs::read_to_string(&file).expect("a source");
         let mut changed = whole.clone();
         for (old, new) in olds.iter().zip(&news) {
