@@ -1,8 +1,10 @@
-"""What the programs of this folder share: `rt dev`, and what it writes of a function for the author of its proof."""
+"""What the programs of this folder and of tests/ share: the list of crates, a copy of what is proved, `rt dev`, and what it writes of a
+function for the author of its proof."""
 import argparse
 import contextlib
 import os
 import re
+import shutil
 import subprocess
 import sys
 import tempfile
@@ -25,6 +27,21 @@ def write(path, text):
     os.makedirs(os.path.dirname(os.path.abspath(path)), exist_ok=True)
     with open(path, 'w', encoding='utf-8') as out:
         out.write(text)
+
+
+def listed():
+    """What crates.txt of the folder that the program is in says: each crate, in order, and what it may use."""
+    lines = [line.split('#')[0].partition(':') for line in read('crates.txt').split('\n')]
+    return {name.strip(): uses.split() for name, colon, uses in lines if colon}
+
+
+def copy_proved(folder):
+    """Copies the crates without their edits, and what is proved of them, so that it is not proved again there."""
+    shutil.copytree('crates', f'{folder}/crates', ignore=shutil.ignore_patterns('must-fail'))
+    shutil.copy('crates.txt', folder)
+    for part in ('rlib', 'stamp'):
+        if os.path.isdir(f'target/{part}'):
+            shutil.copytree(f'target/{part}', f'{folder}/target/{part}')
 
 
 def dev(crate, *words):
