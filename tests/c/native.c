@@ -1,6 +1,7 @@
 /* Every call on native numbers against its twin on bytes; luo_slots32 against the file's own bytes and against the lookups; luo_class in the
    room of luohtemik_tables.h against slices as long as can be. On small files, on the files that are named, on these cut and changed byte by
    byte, and on large ones; with tables and lists that are exact, longer, shorter and wrong.
+     native EVERY FILE ..    cut and changed at every EVERYth byte
    Prints what differs and 'N checks, M wrong'. */
 #include "luohtemik_tables.h"
 
@@ -250,6 +251,11 @@ static void dense(unsigned interfaces, unsigned fields, unsigned attributes) {
 
 int main(int count, char **words) {
     static uint8_t whole[1 << 20];
+    const size_t every = count < 2 ? 0 : strtoul(words[1], NULL, 10);
+    if (!every) {
+        fputs("native: EVERY, a number from 1 up, and then files\n", stderr);
+        return 2;
+    }
     dense(0, 0, 0);
     dense(900, 0, 0);
     dense(65535, 0, 0);
@@ -269,14 +275,14 @@ int main(int count, char **words) {
     filled(32767, LUO_DOUBLE, 9);
     filled(65534, LUO_INTEGER, 5);
     filled(65534, LUO_UTF8, 3);
-    for (int i = 1; i < count; i++) {
+    for (int i = 2; i < count; i++) {
         FILE *f = fopen(words[i], "rb");
         if (!f) return 2;
         size_t length = fread(whole, 1, sizeof whole, f);
         fclose(f);
         memcpy(file, whole, size = length);
         all_of_it(true);
-        for (size_t at = 0; at < length; at += 3) {
+        for (size_t at = 0; at < length; at += every) {
             memcpy(file, whole, size = length);
             file[at] ^= (uint8_t)(1 + at % 255);
             all_of_it(false);
