@@ -1,4 +1,5 @@
 // One attribute: it is framed, its name judged, and what is asked of it by its name.
+#![tactic(auto)]
 ghost use Rattle.std.specs.Prelude.{◌≡◌, ◌+◌, ◌<◌};
 ghost use Rattle.reads.specs.Promise.{Is, reading_check};
 ghost use Rattle.pool.specs.Pool.{seen};
@@ -8,7 +9,7 @@ ghost use Rattle.attributes.specs.Readings.{reading_attribute};
 use reads::{CheckAnswer, Next, Num2, Num4, Refusal};
 
 // An attribute: the slot of its name, the first byte of its body, and how many bytes the body has.
-#[derive(Drop)]
+#[derive(Clone, Copy)]
 pub struct Attribute {
     pub name: u16,
     pub start: usize,
@@ -16,7 +17,7 @@ pub struct Attribute {
 }
 
 // An attribute, or the refusal.
-#[derive(Drop)]
+#[derive(Clone, Copy)]
 pub enum AttributeAnswer {
     Got(Attribute),
     Refused(Refusal),

@@ -1,4 +1,5 @@
 // The attribute BootstrapMethods: its body is checked where it is framed, and the entries that name one of its methods after the file is read.
+#![tactic(auto)]
 ghost use Rattle.std.specs.Prelude.{◌≡◌, ◌<◌, take, drop};
 ghost use Rattle.reads.specs.Promise.{Is, reading2, reading_check, reading_next};
 ghost use Rattle.pool.specs.Pool.{seen};
@@ -14,7 +15,7 @@ const DYNAMIC: u8 = 17;
 const INVOKE_DYNAMIC: u8 = 18;
 
 // What the class's own attributes say of BootstrapMethods: how many there are, and the least number of methods of one, 65,536 where there is none.
-#[derive(Drop)]
+#[derive(Clone, Copy)]
 struct Found {
     count: u32,
     least: usize,

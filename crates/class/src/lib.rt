@@ -1,4 +1,5 @@
 // A whole class file, into lent tables: the pool's cells, the interfaces, the members and the attributes.
+#![tactic(auto)]
 ghost use Rattle.std.specs.Prelude.{◌≡◌, ◌≤◌, min, length, take, drop};
 ghost use Rattle.reads.specs.Answer.{mapped};
 ghost use Rattle.reads.specs.Promise.{Is, reading2, reading_check, reading_next};
@@ -18,7 +19,7 @@ use pool::PoolAnswer;
 use reads::{CheckAnswer, Next, Num2, Refusal};
 
 // How many members of one sort were read, the byte after them and the number of attribute records made so far.
-#[derive(Drop)]
+#[derive(Clone, Copy)]
 struct Sorted {
     count: u16,
     at: usize,
@@ -26,14 +27,14 @@ struct Sorted {
 }
 
 // What is reached after the members of one sort, or the refusal.
-#[derive(Drop)]
+#[derive(Clone, Copy)]
 enum SortedAnswer {
     Got(Sorted),
     Refused(Refusal),
 }
 
 // P, the version, flags as the file has them, the slots of this and super, the number of interfaces, and the byte after them.
-#[derive(Drop)]
+#[derive(Clone, Copy)]
 struct Front {
     slots: usize,
     minor: u16,
@@ -46,7 +47,7 @@ struct Front {
 }
 
 // What stands before the members, or the refusal.
-#[derive(Drop)]
+#[derive(Clone, Copy)]
 enum FrontAnswer {
     Got(Front),
     Refused(Refusal),
@@ -54,7 +55,7 @@ enum FrontAnswer {
 
 // What an accepted file answers: P, the version, masked flags, the slots of this and super, how many interfaces, fields and methods there
 // are, how many attribute records are the members', and how many the class's own.
-#[derive(Drop)]
+#[derive(Clone, Copy)]
 pub struct Class {
     pub slots: usize,
     pub minor: u16,
@@ -70,7 +71,7 @@ pub struct Class {
 }
 
 // An accepted file, or the refusal.
-#[derive(Drop)]
+#[derive(Clone, Copy)]
 pub enum ClassAnswer {
     Accepted(Class),
     Refused(Refusal),

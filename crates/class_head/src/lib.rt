@@ -1,4 +1,5 @@
 // The class header (flags, this, super) and the interfaces, which go into a lent list of slots.
+#![tactic(auto)]
 ghost use Rattle.std.specs.Prelude.{◌≡◌, length, replicate};
 ghost use Rattle.reads.specs.Answer.{mapped};
 ghost use Rattle.reads.specs.Promise.{Is, reading_check, reading2};
@@ -10,7 +11,7 @@ ghost use Rattle.class_head.specs.Readings.{listed_of, reading_head, reading_lis
 use reads::{CheckAnswer, Num2, Refusal};
 
 // Flags as the file has them, and the slots of this and super.
-#[derive(Drop)]
+#[derive(Clone, Copy)]
 pub struct ClassHead {
     pub flags: u16,
     pub this: u16,
@@ -18,21 +19,21 @@ pub struct ClassHead {
 }
 
 // The class header, or the refusal.
-#[derive(Drop)]
+#[derive(Clone, Copy)]
 pub enum HeadAnswer {
     Got(ClassHead),
     Refused(Refusal),
 }
 
 // How many slots a list holds, and the byte after it.
-#[derive(Drop)]
+#[derive(Clone, Copy)]
 pub struct Listed {
     pub count: u16,
     pub next: usize,
 }
 
 // A list that was read, or the refusal.
-#[derive(Drop)]
+#[derive(Clone, Copy)]
 pub enum ListedAnswer {
     Got(Listed),
     Refused(Refusal),

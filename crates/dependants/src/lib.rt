@@ -1,4 +1,5 @@
 // The dependants of a slot: every slot that reaches it along one or more references, into a lent list.
+#![tactic(auto)]
 ghost use Rattle.std.specs.Prelude.{◌≡◌, ◌||◌, ◌≤◌, eqb, length, set, take};
 ghost use Rattle.reads.specs.Answer.{mapped};
 ghost use Rattle.reads.specs.Promise.{Is};
@@ -12,7 +13,7 @@ use pool::PoolAnswer;
 use reads::{CheckAnswer, Refusal};
 
 // How many slots were listed, or the refusal: 13 with the number of cells that are needed.
-#[derive(Drop)]
+#[derive(Clone, Copy)]
 pub enum DependantsAnswer {
     Listed(usize),
     Refused(Refusal),

@@ -1,5 +1,6 @@
 // A handed table: the entries are read afresh, 12 where it is not the one that the file gives, then the pool's checks; and what every
 // lookup asks of its slot. The table is compared while the entries are read, so that no second one is needed.
+#![tactic(auto)]
 ghost use Rattle.std.specs.Prelude.{◌≡◌, eqb};
 ghost use Rattle.reads.specs.Answer.{mapped, require};
 ghost use Rattle.reads.specs.Promise.{Is, reading_check};
@@ -13,14 +14,14 @@ use reads::{CheckAnswer, Refusal};
 
 // What reading the entries of a handed table's file gives: how many slots, the byte after the last entry, and how many cells of the
 // table agree with theirs, from the first on.
-#[derive(Drop)]
+#[derive(Clone, Copy)]
 struct Walked {
     slots: usize,
     next: usize,
     same: usize,
 }
 
-#[derive(Drop)]
+#[derive(Clone, Copy)]
 enum WalkAnswer {
     Got(Walked),
     Refused(Refusal),

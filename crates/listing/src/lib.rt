@@ -1,4 +1,5 @@
 // Every slot of a handed table's pool in one reading: its tag and two numbers, into lent lists.
+#![tactic(auto)]
 ghost use Rattle.std.specs.Prelude.{◌≡◌, ◌+◌, ◌≤◌, length, replicate};
 ghost use Rattle.reads.specs.Answer.{mapped};
 ghost use Rattle.reads.specs.Promise.{Is};
@@ -14,11 +15,11 @@ use pool::PoolAnswer;
 use reads::Refusal;
 
 // Which two numbers of an entry are listed: the place of each, from the tag byte on, and its width; 0 and 0 for none.
-#[derive(Drop)]
+#[derive(Clone, Copy)]
 struct Form(u8, u8, u8, u8);
 
 // How many slots were listed, or the refusal: 13 with the number of slots where a list is shorter.
-#[derive(Drop)]
+#[derive(Clone, Copy)]
 pub enum ListingAnswer {
     Listed(usize),
     Refused(Refusal),

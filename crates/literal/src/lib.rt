@@ -1,4 +1,5 @@
 // The values of literals: the file's bits as integers and floats of the language, and back.
+#![tactic(auto)]
 ghost use Rattle.std.specs.Prelude.{◌≡◌, ◌+◌, ◌≤◌};
 ghost use Rattle.std.specs.Float.{binary32, binary64};
 ghost use Rattle.std.specs.Float.Ieee.{to_bits};
@@ -12,7 +13,7 @@ use reads::Refusal;
 
 // What a literal lookup answers: a number, or the Utf8 slot of a String. The language has one NaN and makes no float of a NaN's bits, of
 // which a file has many: FloatNan and DoubleNan carry them.
-#[derive(Drop)]
+#[derive(Clone, Copy)]
 pub enum LiteralAnswer {
     Integer(i32),
     Float(f32),

@@ -1,5 +1,6 @@
 // Lookups in a handed table: one for each kind of entry, in two steps. The table is judged, and then the slot that is asked for: 7 where it
 // is P or more, 8 where it is no entry of the kind. Texts are answered by their Utf8 slot.
+#![tactic(auto)]
 ghost use Rattle.std.specs.Prelude.{◌≡◌};
 ghost use Rattle.reads.specs.Promise.{Is, reading2};
 ghost use Rattle.pool.specs.Pool.{seen};
@@ -11,21 +12,21 @@ use pool::PoolAnswer;
 use reads::{CheckAnswer, Num2, Refusal};
 
 // A name and a descriptor, by Utf8 slot.
-#[derive(Drop)]
+#[derive(Clone, Copy)]
 pub struct Named {
     pub name: u16,
     pub descriptor: u16,
 }
 
 // What `name_and_type` answers.
-#[derive(Drop)]
+#[derive(Clone, Copy)]
 pub enum NamedAnswer {
     Got(Named),
     Refused(Refusal),
 }
 
 // Which of the three member references it is, and the Utf8 slots of the class's name, of the member's name and of its descriptor.
-#[derive(Drop)]
+#[derive(Clone, Copy)]
 pub struct Member {
     pub tag: u8,
     pub class: u16,
@@ -34,35 +35,35 @@ pub struct Member {
 }
 
 // What `member_reference` answers.
-#[derive(Drop)]
+#[derive(Clone, Copy)]
 pub enum MemberAnswer {
     Got(Member),
     Refused(Refusal),
 }
 
 // A handle's kind, and what it holds.
-#[derive(Drop)]
+#[derive(Clone, Copy)]
 pub struct Held {
     pub kind: u8,
     pub member: Member,
 }
 
 // What `method_handle` answers.
-#[derive(Drop)]
+#[derive(Clone, Copy)]
 pub enum HeldAnswer {
     Got(Held),
     Refused(Refusal),
 }
 
 // The index into the bootstrap methods, and a name and type.
-#[derive(Drop)]
+#[derive(Clone, Copy)]
 pub struct Indexed {
     pub index: u16,
     pub named: Named,
 }
 
 // What `dynamic_constant` and `invoke_dynamic` answer.
-#[derive(Drop)]
+#[derive(Clone, Copy)]
 pub enum IndexedAnswer {
     Got(Indexed),
     Refused(Refusal),

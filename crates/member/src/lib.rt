@@ -1,4 +1,5 @@
 // A field or a method, judged line by line up to its attributes: names, descriptors, shape, duplicates, room.
+#![tactic(auto)]
 ghost use Rattle.std.specs.Prelude.{◌≡◌, ◌&&◌, ◌+◌, ◌<◌};
 ghost use Rattle.reads.specs.Answer.{mapped};
 ghost use Rattle.reads.specs.Bytes.{u2};
@@ -11,14 +12,14 @@ ghost use Rattle.member.specs.Readings.{reading_member};
 use reads::{CheckAnswer, Num2, Refusal};
 
 // Which members are read: fields, or methods, and whether of an interface.
-#[derive(Drop)]
+#[derive(Clone, Copy)]
 pub struct Sort {
     pub method: bool,
     pub in_interface: bool,
 }
 
 // What a member says of itself before its attributes: masked flags, the slots of its name and its descriptor, its number of attributes.
-#[derive(Drop)]
+#[derive(Clone, Copy)]
 pub struct Member {
     pub flags: u16,
     pub name: u16,
@@ -27,7 +28,7 @@ pub struct Member {
 }
 
 // A member, or the refusal.
-#[derive(Drop)]
+#[derive(Clone, Copy)]
 pub enum MemberAnswer {
     Got(Member),
     Refused(Refusal),

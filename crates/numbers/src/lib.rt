@@ -1,4 +1,5 @@
 // Structs of numbers that C calls answer with, and what fills them from the answers of the reader.
+#![tactic(auto)]
 ghost use Rattle.std.specs.Prelude.{◌≡◌, ◌%◌};
 ghost use Rattle.pool.specs.Readings.{reading_pool};
 ghost use Rattle.dependants.specs.Readings.{reading_listed};
@@ -15,7 +16,7 @@ use reads::Refusal;
 
 // What `luo_pool` answers: the refusal's number, 0 where the pool is accepted, its place, how many slots there are, and the version.
 #[repr(C)]
-#[derive(Drop)]
+#[derive(Clone, Copy)]
 pub struct LuoPoolAnswer {
     pub refusal: u32,
     pub place: u64,
@@ -26,7 +27,7 @@ pub struct LuoPoolAnswer {
 
 // What a name or a method type is answered by: after the refusal and its place, its Utf8 slot.
 #[repr(C)]
-#[derive(Drop)]
+#[derive(Clone, Copy)]
 pub struct LuoSlotAnswer {
     pub refusal: u32,
     pub place: u64,
@@ -35,7 +36,7 @@ pub struct LuoSlotAnswer {
 
 // A name and type: the Utf8 slots of its name and of its descriptor.
 #[repr(C)]
-#[derive(Drop)]
+#[derive(Clone, Copy)]
 pub struct LuoNamedAnswer {
     pub refusal: u32,
     pub place: u64,
@@ -45,7 +46,7 @@ pub struct LuoNamedAnswer {
 
 // A member reference: which of the three (9, 10, 11), and the Utf8 slots of the class's name, of its name and of its descriptor.
 #[repr(C)]
-#[derive(Drop)]
+#[derive(Clone, Copy)]
 pub struct LuoMemberAnswer {
     pub refusal: u32,
     pub place: u64,
@@ -57,7 +58,7 @@ pub struct LuoMemberAnswer {
 
 // A method handle: its kind, and the member that it holds.
 #[repr(C)]
-#[derive(Drop)]
+#[derive(Clone, Copy)]
 pub struct LuoHandleAnswer {
     pub refusal: u32,
     pub place: u64,
@@ -70,7 +71,7 @@ pub struct LuoHandleAnswer {
 
 // A Dynamic or an InvokeDynamic: its index into the bootstrap methods, and the Utf8 slots of its name and of its descriptor.
 #[repr(C)]
-#[derive(Drop)]
+#[derive(Clone, Copy)]
 pub struct LuoDynamicAnswer {
     pub refusal: u32,
     pub place: u64,
@@ -81,7 +82,7 @@ pub struct LuoDynamicAnswer {
 
 // A literal: its tag (3 Integer, 4 Float, 5 Long, 6 Double, 8 String) and its bits, of a String its Utf8 slot.
 #[repr(C)]
-#[derive(Drop)]
+#[derive(Clone, Copy)]
 pub struct LuoLiteralAnswer {
     pub refusal: u32,
     pub place: u64,
@@ -91,7 +92,7 @@ pub struct LuoLiteralAnswer {
 
 // Whether a Utf8 slot is text (1) or raw (0).
 #[repr(C)]
-#[derive(Drop)]
+#[derive(Clone, Copy)]
 pub struct LuoTextAnswer {
     pub refusal: u32,
     pub place: u64,
@@ -100,7 +101,7 @@ pub struct LuoTextAnswer {
 
 // Where the bytes of a Utf8 slot start in the file, and how many they are.
 #[repr(C)]
-#[derive(Drop)]
+#[derive(Clone, Copy)]
 pub struct LuoPartAnswer {
     pub refusal: u32,
     pub place: u64,
@@ -110,7 +111,7 @@ pub struct LuoPartAnswer {
 
 // How many dependants were listed.
 #[repr(C)]
-#[derive(Drop)]
+#[derive(Clone, Copy)]
 pub struct LuoListAnswer {
     pub refusal: u32,
     pub place: u64,
@@ -120,7 +121,7 @@ pub struct LuoListAnswer {
 // What `luo_class` answers: after the refusal and its place, how many slots there are, the version, the masked flags, the slots of this and
 // super, and how many interfaces, fields, methods, member attributes and class attributes there are.
 #[repr(C)]
-#[derive(Drop)]
+#[derive(Clone, Copy)]
 pub struct LuoClassAnswer {
     pub refusal: u32,
     pub place: u64,

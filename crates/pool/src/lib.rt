@@ -1,4 +1,5 @@
 // The pool's entries, read into a lent table: cell n is the file offset of slot n's tag byte, 0 for Zero and Unused.
+#![tactic(auto)]
 ghost use Rattle.std.specs.Prelude.{◌≡◌, ◌+◌, ◌≤◌, length, replicate};
 ghost use Rattle.reads.specs.Answer.{mapped};
 ghost use Rattle.reads.specs.Promise.{Is, reading2};
@@ -11,24 +12,24 @@ use reads::{Next, Num1, Num2, Num4, Refusal};
 
 // What the table of entries says of a tag: the major version from which on it is known, the widths of the two reads after the tag,
 // and where its two references stand, from the tag byte on; 0 for none. No version knows what is known from 65536 on.
-#[derive(Drop)]
+#[derive(Clone, Copy)]
 pub struct Row(pub u32, pub u8, pub u8, pub u8, pub u8);
 
 // An entry: the byte after it, and whether it takes two slots.
-#[derive(Drop)]
+#[derive(Clone, Copy)]
 struct Entry {
     next: usize,
     wide: bool,
 }
 
-#[derive(Drop)]
+#[derive(Clone, Copy)]
 enum EntryAnswer {
     Got(Entry),
     Refused(Refusal),
 }
 
 // A slot: its cell, the byte after its entry, and whether the next slot is the second of a wide entry.
-#[derive(Drop)]
+#[derive(Clone, Copy)]
 pub struct Slot {
     pub cell: usize,
     pub next: usize,
@@ -36,27 +37,27 @@ pub struct Slot {
 }
 
 // A slot, or why there is none.
-#[derive(Drop)]
+#[derive(Clone, Copy)]
 pub enum SlotAnswer {
     Got(Slot),
     Refused(Refusal),
 }
 
 // How many slots were made, and the byte after the last entry.
-#[derive(Drop)]
+#[derive(Clone, Copy)]
 struct Made {
     slots: usize,
     next: usize,
 }
 
-#[derive(Drop)]
+#[derive(Clone, Copy)]
 enum MadeAnswer {
     Got(Made),
     Refused(Refusal),
 }
 
 // The numbers that stand before the first entry.
-#[derive(Drop)]
+#[derive(Clone, Copy)]
 pub struct Header {
     pub minor: u16,
     pub major: u16,
@@ -64,14 +65,14 @@ pub struct Header {
 }
 
 // A header, or why the file has none.
-#[derive(Drop)]
+#[derive(Clone, Copy)]
 pub enum HeaderAnswer {
     Got(Header),
     Refused(Refusal),
 }
 
 // What an accepted pool answers: P, the version, and the byte after the pool, where the class goes on.
-#[derive(Drop)]
+#[derive(Clone, Copy)]
 pub struct Head {
     pub slots: usize,
     pub minor: u16,
@@ -80,7 +81,7 @@ pub struct Head {
 }
 
 // What a pool call answers.
-#[derive(Drop)]
+#[derive(Clone, Copy)]
 pub enum PoolAnswer {
     Accepted(Head),
     Refused(Refusal),

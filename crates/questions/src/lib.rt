@@ -1,5 +1,6 @@
 // Every lookup as one question with one reply, a struct of numbers, in a handed table that is bytes: the entries are read afresh into
 // cells of this crate's own, as many as are enough for the file, and the table is held against them.
+#![tactic(auto)]
 ghost use Rattle.std.specs.Prelude.{◌≡◌, ◌≤◌, length};
 ghost use Rattle.reads.specs.Promise.{reading2};
 ghost use Rattle.handed.specs.Handed.{handed as handed_pool, lookup};
@@ -17,7 +18,7 @@ use reads::{CheckAnswer, Num2, Refusal};
 use values::{Span, TextAnswer};
 
 // What can be asked of a slot.
-#[derive(Drop)]
+#[derive(Clone, Copy)]
 pub enum Question {
     ClassName,
     ModuleName,
@@ -35,7 +36,7 @@ pub enum Question {
 
 // A reply: the refusal's number, 0 where there is an answer, its place, and the answer's values: up to five numbers in the order of the
 // question's own struct, the bits of a literal, and where a part of the file starts and how long it is; 0 where it has no such value.
-#[derive(Drop)]
+#[derive(Clone, Copy)]
 pub struct Reply {
     pub refusal: u32,
     pub place: u64,

@@ -1,45 +1,47 @@
 // Big-endian reads at a byte of the file, each with refusal 2 where it passes the end; and lent tables made zero.
+#![tactic(auto)]
+
 ghost use Rattle.std.specs.Prelude.{◌≡◌, ◌+◌, ◌*◌, min, length, take, drop, replicate};
 ghost use Rattle.reads.specs.Bytes.{num1, num2, u1, u2, u4, skipped};
 ghost use Rattle.reads.specs.Promise.{Is, reading1, reading2, reading4, reading_next};
 
 // A refusal: its number and its place.
-#[derive(Drop)]
+#[derive(Clone, Copy)]
 pub struct Refusal {
     pub number: u8,
     pub place: usize,
 }
 
 // What a read of one byte gives: its number, or refusal 2.
-#[derive(Drop)]
+#[derive(Clone, Copy)]
 pub enum Num1 {
     Got(u8),
     Refused(Refusal),
 }
 
 // The same of two bytes.
-#[derive(Drop)]
+#[derive(Clone, Copy)]
 pub enum Num2 {
     Got(u16),
     Refused(Refusal),
 }
 
 // The same of four bytes.
-#[derive(Drop)]
+#[derive(Clone, Copy)]
 pub enum Num4 {
     Got(u32),
     Refused(Refusal),
 }
 
 // What a read that keeps nothing gives: the byte after it, or refusal 2.
-#[derive(Drop)]
+#[derive(Clone, Copy)]
 pub enum Next {
     At(usize),
     Refused(Refusal),
 }
 
 // A check: fine, or the refusal.
-#[derive(Drop)]
+#[derive(Clone, Copy)]
 pub enum CheckAnswer {
     Fine,
     Refused(Refusal),

@@ -1,9 +1,10 @@
 // Member and attribute records: the numbers that a class's members and attributes are read into, a slice for each, put together into lent tables of records.
+#![tactic(auto)]
 ghost use Rattle.std.specs.Prelude.{◌≡◌, length, get_or};
 ghost use Rattle.records.specs.Records.{member_of, members_from, none, attribute_of, attributes_from, no_attribute};
 
 // A member: its flags, the Utf8 slots of its name and descriptor, its first attribute record, and how many it has.
-#[derive(Drop)]
+#[derive(Clone, Copy)]
 pub struct Member {
     pub flags: u16,
     pub name: u16,
@@ -81,7 +82,7 @@ pub fn record_at(records: &[Member], i: usize) -> Member
 }
 
 // An attribute: the Utf8 slot of its name, where its body begins in the file, and how long it is.
-#[derive(Drop)]
+#[derive(Clone, Copy)]
 pub struct Attribute {
     pub name: u16,
     pub body: u32,

@@ -1,4 +1,5 @@
 // Text and names, on the bytes of a Utf8 entry: names.rs, and what text is.
+#![tactic(auto)]
 ghost use Rattle.std.specs.Prelude.{◌≡◌, [], ◌∷◌, false, not, ◌&&◌, drop};
 ghost use Rattle.text.specs.Text.{one_of, before, begins, form_length, pair_form, wide_forms, text_form, run, is_text};
 ghost use Rattle.text.specs.Text.{marks, method_marks, name_marks, plain, unqualified, binary, follows, walked, whole};
@@ -227,7 +228,7 @@ fn may_follow(seen: bool, b: u8) -> bool
 }
 
 // Where a walk along a binary name stops, and whether the bytes before are one.
-#[derive(Drop)]
+#[derive(Clone, Copy)]
 pub struct Walk {
     pub at: usize,
     pub whole: bool,

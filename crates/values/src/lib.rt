@@ -1,4 +1,5 @@
 // Lookups of values in a handed table: literals, and the bytes of Utf8 slots.
+#![tactic(auto)]
 ghost use Rattle.std.specs.Prelude.{◌≡◌, ◌+◌, ◌≤◌, length};
 ghost use Rattle.reads.specs.Promise.{Is};
 ghost use Rattle.pool.specs.Pool.{seen};
@@ -12,7 +13,7 @@ use pool::PoolAnswer;
 use reads::{CheckAnswer, Refusal};
 
 // What a Utf8 slot holds: text, or bytes that are none.
-#[derive(Drop)]
+#[derive(Clone, Copy)]
 pub enum TextAnswer {
     Text,
     Raw,
@@ -20,7 +21,7 @@ pub enum TextAnswer {
 }
 
 // A part of the file: its first byte, and the byte after its last.
-#[derive(Drop)]
+#[derive(Clone, Copy)]
 pub struct Span {
     pub from: usize,
     pub to: usize,

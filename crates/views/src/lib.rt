@@ -1,5 +1,6 @@
 // A view of a pool: the file and the table of its slots, held together, and each lookup over it. A lookup takes the view apart and calls
 // the function on slices, which does the work.
+#![tactic(auto)]
 ghost use Rattle.std.specs.Prelude.{◌≡◌, ◌+◌, length};
 ghost use Rattle.reads.specs.Answer.{mapped};
 ghost use Rattle.reads.specs.Promise.{Is, reading2};
@@ -20,7 +21,7 @@ use reads::Num2;
 use values::{Span, TextAnswer};
 
 // A pool as it is handed to a lookup: the file, and its table of slots.
-#[derive(Drop)]
+#[derive(Clone, Copy)]
 pub struct PoolView<'a> {
     pub file: &'a [u8],
     pub table: &'a [u32],
