@@ -1,0 +1,25 @@
+-- `script::digit_of` meets its contract. Assumes nothing.
+use native.Mathlib.Omega.{arith}
+use borrow.Author.Tests.{lt-ltb, le-ltb, le-leb, lt-leb}
+use Rattle.script.specs.Script.{digit}
+use Rattle.script.proofs.digit_of.Goals as goal
+
+pub returns-then-b-lt48 : goal.returns-then-b-lt48
+unfolding digit
+returns-then-b-lt48 c = (simp (lt-ltb _ _ c.if-b-lt48.true), omega arith)
+
+pub returns-then-b-le57 : goal.returns-then-b-le57
+unfolding digit
+returns-then-b-le57 c = (simp (le-ltb _ _ c.if-b-lt48.false, le-leb _ _ c.if-b-le57.true), omega arith)
+
+pub returns-then-b-lt97 : goal.returns-then-b-lt97
+unfolding digit
+returns-then-b-lt97 c = (simp (le-ltb _ _ c.if-b-lt48.false, lt-leb _ _ c.if-b-le57.false, lt-ltb _ _ c.if-b-lt97.true), omega arith)
+
+pub returns-then-b-le102 : goal.returns-then-b-le102
+unfolding digit
+returns-then-b-le102 c = (simp (le-ltb _ _ c.if-b-lt48.false, lt-leb _ _ c.if-b-le57.false, le-ltb _ _ c.if-b-lt97.false, le-leb _ _ c.if-b-le102.true), omega arith)
+
+pub returns-else-b-le102 : goal.returns-else-b-le102
+unfolding digit
+returns-else-b-le102 c = (simp (le-ltb _ _ c.if-b-lt48.false, lt-leb _ _ c.if-b-le57.false, le-ltb _ _ c.if-b-lt97.false, lt-leb _ _ c.if-b-le102.false), omega arith)

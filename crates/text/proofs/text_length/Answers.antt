@@ -1,0 +1,29 @@
+-- `text::text_length` meets its contract. The loop's invariant: the run from `i` on ends where the whole run does. Assumes nothing.
+use Prim.Native.Nat.{◌-◌}
+use native.Mathlib.Omega.{arith}
+use Rattle.text.specs.Text.{text_form}
+use Rattle.text.proofs.Laws.{text_in}
+use Rattle.text.proofs.Runs.{start, fits, turn, stop, done}
+use Rattle.text.proofs.text_length.Goals as goal
+
+pub loop-i-init : goal.loop-i-init
+loop-i-init c = start text_form text_in _
+
+pub returns-then-n-eq0 : goal.returns-then-n-eq0
+returns-then-n-eq0 c = stop text_form text_in _ _ _ c.loop-i.invariant c.form_at-n.ensures c.if-n-eq0.true
+
+pub overflow_add-i : goal.overflow_add-i
+overflow_add-i c =
+    let h = fits text_form text_in c.args.s.now c.loop-i.i c.form_at-n.result c.form_at-n.ensures in
+    omega arith
+
+pub loop-i-smaller : goal.loop-i-smaller
+loop-i-smaller c =
+    let h = fits text_form text_in c.args.s.now c.loop-i.i c.form_at-n.result c.form_at-n.ensures in
+    omega arith
+
+pub loop-i-preserved : goal.loop-i-preserved
+loop-i-preserved c = turn text_form text_in _ _ _ c.loop-i.invariant c.form_at-n.ensures
+
+pub returns : goal.returns
+returns c = done text_form text_in _ _ c.loop-i.invariant c.loop-i-test.false
