@@ -3,7 +3,7 @@ use mathlib.Core.Path.{◌≡◌, refl, sym}
 use mathlib.Core.List.{List, [], ◌∷◌}
 use Prim.Native.Nat.{ℕ, ◌≤◌, ◌<◌}
 use native.Mathlib.Omega.{arith}
-use borrow.Author.Rules.{rules}
+use borrow.Author.Rules.{rules as lemmas}
 use borrow.Author.Tests.{ne_eqb}
 use Rattle.reads.specs.Answer.{fine}
 use Rattle.pool.specs.Pool.{Pool}
@@ -19,7 +19,7 @@ unruled m t p n [] h l = refl
 unruled m t p n (r ∷ rs) h l = simp (ne_eqb t r.0 (λ e. omega (arith, h.0))) (unruled m t p n rs h.1 l)
 
 all_from : From 7 rules
-all_from = search rules
+all_from = search lemmas
 
 pub plain : (p : Pool) (n : ℕ) → tag_of p n < 7 → fine ≡ obey p n
 unfolding obey

@@ -1,0 +1,11 @@
+-- What holds at each turn of the loop.
+use Prim.Native.Nat.{◌-◌}
+use mathlib.Core.Path.{◌≡◌}
+use lib.ListN.{length}
+use Rattle.lookup_vectors.proofs.respond_to_all.Given as goal
+
+abbrev pub invariant-loop-at : goal.invariant-loop-at
+invariant-loop-at l = (length l.space ≡ length l.initial.space) × (length l.table ≡ length l.initial.table)
+
+abbrev pub decreases-loop-at : goal.decreases-loop-at
+decreases-loop-at l = length l.input - l.at
