@@ -27,5 +27,5 @@ answer_list_slots h = record { answer = h.0; list = h.1; slots = h.2 }
 pub answer_tables_records : {A B C : Type 0} → A × B × C → record { answer : A; tables : B; records : C }
 answer_tables_records h = record { answer = h.0; tables = h.1; records = h.2 }
 
-pub answer_lists : {A B C D : Type 0} → A × B × C × D → record { answer : A; tags : B; firsts : C; seconds : D }
-answer_lists h = record { answer = h.0; tags = h.1; firsts = h.2; seconds = h.3 }
+pub answer_lists : {A B C D : Type 0} → A × (B × (C × D)) → record { answer : A; tags : B; firsts : C; seconds : D }
+answer_lists h = record { answer = h.0; tags = h.1.0; firsts = h.1.1.0; seconds = h.1.1.1 }

@@ -27,4 +27,4 @@ returns-in-Fine c =
     let b = c.shared_slice_known-1.given in
     let h = agreed s (λ i. (b i).fits) (length c.args.cells.now) p.0 t (got reading_check c.in-Fine.is c.check_afresh.ensures.answer) in
     let d = same_list s (λ i. (b i).fits) (length c.args.cells.now) p.0 t c.args.slot room k p.1 _ _ c.check_afresh.ensures.cells h in
-    answer_list (lists (length c.args.list.now) k (omega arith) _ _ _ _ _ d c.list_cells.ensures.answer c.list_cells.ensures.list.0 c.list_cells.auto.slots c.list_cells.ensures.list.1)
+    answer_list (lists (length c.args.list.now) k (omega arith) _ _ _ _ _ d c.list_cells.ensures.answer c.list_cells.ensures.list c.list_cells.auto.slots c.list_cells.ensures.slots)

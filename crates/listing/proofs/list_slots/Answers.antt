@@ -23,4 +23,4 @@ returns-in-Refused c = answer_lists (refuses _ _ _ _ _ _ _ _ _ _ _ (got reading_
 pub returns-in-Accepted : goal.returns-in-Accepted
 returns-in-Accepted c =
     answer_lists (answers _ _ _ _ _ _ _ _ _ _ _ (got reading_pool c.in-Accepted.is c.check_handed.ensures)
-    (same_room _ _ _ _ _ _ _ _ _ _ _ c.clear_bytes.auto.table c.clear.auto.table c.clear-2.auto.table (c.list_all.ensures.answer, c.list_all.ensures.tags, c.list_all.ensures.firsts, c.list_all.ensures.seconds)))
+    (same_room _ _ _ _ _ _ _ _ _ _ _ c.clear_bytes.auto.table c.clear.auto.table c.clear-2.auto.table (c.list_all.ensures.answer, (c.list_all.ensures.tags, (c.list_all.ensures.firsts, c.list_all.ensures.seconds)))))
