@@ -73,12 +73,12 @@ module _ (file : Bor (List ℕ)) (major : ℕ) (table : Bor (List ℕ)) (slots :
       (member_at k p room n at names.now types.now) (Among of_member)
   member-member_at κs k room n at names types = answers (λ z e h. h) (member_only k p room n at names.now types.now)
 
-  pub class_head·read_head : (κs : _) (at : ℕ) → Answers (read_head_reads.Learnt κs (file, (major, (table, (slots, (at, tt)))))) reading_head (head_at p at) (Among of_head)
-  class_head·read_head κs at = answers (λ z e h. h) (head_only p at)
+  pub class_head-read_head : (κs : _) (at : ℕ) → Answers (read_head_reads.Learnt κs (file, (major, (table, (slots, (at, tt)))))) reading_head (head_at p at) (Among of_head)
+  class_head-read_head κs at = answers (λ z e h. h) (head_only p at)
 
-  pub class_head·read_interfaces : (κs : _) (at : ℕ) (list : MutBor (List ℕ)) → let room = length list.now in
+  pub class_head-read_interfaces : (κs : _) (at : ℕ) (list : MutBor (List ℕ)) → let room = length list.now in
       Fills (read_interfaces_reads.Learnt κs (file, (major, (table, (slots, (at, (list, tt))))))) reading_listed listed_of (interfaces_at p room at) (λ e. e.1.1.1.1.1.0.now) (λ m. m.list) room (Among of_interfaces)
-  class_head·read_interfaces κs at list = fills listed_of (λ m. m.list) _ _ (λ z e h. h) (interfaces_only p _ at)
+  class_head-read_interfaces κs at list = fills listed_of (λ m. m.list) _ _ (λ z e h. h) (interfaces_only p _ at)
 
 -- ---- a whole file, into the pool's table, the interfaces and eight columns
 
@@ -186,11 +186,11 @@ module _ (a : WithRecords) where
       ∷ (((lent_in e).cells ≡ t.lent.cells) × (((lent_in e).interfaces ≡ t.lent.interfaces) × ((lent_in e).columns ≡ t.lent.columns)))
       ∷ (((all_in e).records ≡ t.records) × ((all_in e).attributes ≡ t.attributes)) ∷ []
 
-  pub class_records·read_class_records : (κs : _) → Claims read-class-records.ended (λ M 𝓤 𝓛. read-class-records.clauses 𝓛) κs a claimed
-  class_records·read_class_records κs = record { text = λ w g z e. refl }
+  pub class_records-read_class_records : (κs : _) → Claims read-class-records.ended (λ M 𝓤 𝓛. read-class-records.clauses 𝓛) κs a claimed
+  class_records-read_class_records κs = record { text = λ w g z e. refl }
 
-  pub class_records·kept : Writes (λ z e. AllOf (claimed z e)) reading_class (mapped class_of y) all_in (records_into (room a) (len a) (c a) n k y) (no_records (room a) (len a) (c a) n k) (OfFile (s a) (room a))
-  class_records·kept =
+  pub class_records-kept : Writes (λ z e. AllOf (claimed z e)) reading_class (mapped class_of y) all_in (records_into (room a) (len a) (c a) n k y) (no_records (room a) (len a) (c a) n k) (OfFile (s a) (room a))
+  class_records-kept =
       writes_part class_of (records_into (room a) (len a) (c a) n k) y (λ _ _. refl)
       (λ z e h. (h.0, λ i. record { lent = record { cells = h.1.0.0 i; interfaces = h.1.0.1.0 i; columns = h.1.0.1.1 i }; records = h.1.1.0 i; attributes = h.1.1.1 i }))
       (both (file_only (s a) (rooms_with (room a) (len a) (c a) n k)) (class_placed (s a) (rooms_with (room a) (len a) (c a) n k)))
