@@ -1,5 +1,6 @@
 // Plain ASCII, eight bytes at a time: most texts are that, and need no look at each byte.
 #![tactic(auto)]
+
 ghost use Rattle.std.specs.Prelude.{◌≡◌, ◌∷◌, [], ◌++◌, true, false, ◌&&◌, ◌||◌, eqb, length, take, drop, ◌+◌, ◌<◌, ◌≤◌};
 ghost use Rattle.text.specs.Text.{unqualified, binary, walked, whole};
 ghost use Rattle.ascii.specs.Ascii.{ascii, every, packed, bytes, lacks as lacks_of, plain8, unmarked8, every8};

@@ -1,5 +1,6 @@
 // One attribute: it is framed, its name judged, and what is asked of it by its name.
 #![tactic(auto)]
+
 ghost use Rattle.std.specs.Prelude.{◌≡◌, ◌+◌, ◌<◌};
 ghost use Rattle.reads.specs.Promise.{Is, reading_check};
 ghost use Rattle.pool.specs.Pool.{seen};

@@ -1,5 +1,6 @@
 // The attribute BootstrapMethods: its body is checked where it is framed, and the entries that name one of its methods after the file is read.
 #![tactic(auto)]
+
 ghost use Rattle.std.specs.Prelude.{◌≡◌, ◌<◌, take, drop};
 ghost use Rattle.reads.specs.Promise.{Is, reading2, reading_check, reading_next};
 ghost use Rattle.pool.specs.Pool.{seen};

@@ -1,6 +1,7 @@
 // A handed table that is bytes, held against the file: its entries are read afresh into lent cells, and the table must be these cells
 // and zeros.
 #![tactic(auto)]
+
 ghost use Rattle.std.specs.Prelude.{◌≡◌, ◌≤◌, length};
 ghost use Rattle.reads.specs.Promise.{Is, reading_check};
 ghost use Rattle.reads.specs.Tables.{after};

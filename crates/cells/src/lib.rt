@@ -1,5 +1,6 @@
 // A table as bytes: four big-endian bytes a cell, a remainder no cell; read cell by cell, written whole, and made zero.
 #![tactic(auto)]
+
 ghost use Rattle.std.specs.Prelude.{◌≡◌, ◌+◌, ◌*◌, ◌/◌, ◌≤◌, ◌<◌, length, replicate, take, get_or};
 ghost use Rattle.cells.specs.Cells.{cells_in, cell_bytes, as_bytes, written};
 

@@ -1,5 +1,6 @@
 // The pool's checks over a table that was read or handed in: first every reference, then kinds and texts; and the whole pool call.
 #![tactic(auto)]
+
 ghost use Rattle.std.specs.Prelude.{◌≡◌, length};
 ghost use Rattle.reads.specs.Answer.{mapped, each};
 ghost use Rattle.reads.specs.Promise.{Is, reading_check};

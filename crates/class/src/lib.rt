@@ -1,5 +1,6 @@
 // A whole class file, into lent tables: the pool's cells, the interfaces, the members and the attributes.
 #![tactic(auto)]
+
 ghost use Rattle.std.specs.Prelude.{◌≡◌, ◌≤◌, min, length, take, drop};
 ghost use Rattle.reads.specs.Answer.{mapped};
 ghost use Rattle.reads.specs.Promise.{Is, reading2, reading_check, reading_next};

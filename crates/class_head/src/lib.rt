@@ -1,5 +1,6 @@
 // The class header (flags, this, super) and the interfaces, which go into a lent list of slots.
 #![tactic(auto)]
+
 ghost use Rattle.std.specs.Prelude.{◌≡◌, length, replicate};
 ghost use Rattle.reads.specs.Answer.{mapped};
 ghost use Rattle.reads.specs.Promise.{Is, reading_check, reading2};

@@ -1,6 +1,7 @@
 // Runs class files: a line says how large the lent tables are, and the bytes in hexadecimal, or a file of data/. Written are the
 // answer and every lent table, whole.
 #![tactic(auto)]
+
 ghost use Rattle.std.specs.Prelude.{◌≡◌, ◌≤◌, length, take};
 
 use class::{Class, ClassAnswer};

@@ -2,6 +2,7 @@
 // cells of the table that its entries give are handed in; the slot asked for; how many cells are lent; and, where they stand there, the
 // number of a cell of the table and what is put there. The answer is the number listed, or the refusal, and every lent cell afterwards.
 #![tactic(auto)]
+
 ghost use Rattle.std.specs.Prelude.{◌≡◌, ◌≤◌, length, take};
 
 use dependants::DependantsAnswer;

@@ -1,5 +1,6 @@
 // Descriptors, on the bytes of a Utf8 entry: the grammar of descriptors.rs. Every walk is a loop, so that depth takes no stack.
 #![tactic(auto)]
+
 ghost use Rattle.std.specs.Prelude.{◌≡◌};
 ghost use Rattle.text.specs.Text.{one_of, run, same};
 ghost use Rattle.descriptors.specs.Descriptors.{stands, letters, class_length, base_length, type_length, depth, void};

@@ -49,7 +49,8 @@ stop [] table h l = absurd (omega arith)
 stop (c ∷ cells) [] h l = absurd (omega arith)
 stop (c ∷ cells) (t ∷ table) h l = by_cell (stop cells table) (eqb t c) refl h l
   where
-    by_cell : (agreeing cells table < length cells → agreeing cells table < length table → get_or table (agreeing cells table) 0 ≡ get_or cells (agreeing cells table) 0 → ⊥) → (b : Bool) → eqb t c ≡ b → cond b (suc (agreeing cells table)) 0 < suc (length cells) → cond b (suc (agreeing cells table)) 0 <
+    by_cell : (agreeing cells table < length cells → agreeing cells table < length table →
+        get_or table (agreeing cells table) 0 ≡ get_or cells (agreeing cells table) 0 → ⊥) → (b : Bool) → eqb t c ≡ b → cond b (suc (agreeing cells table)) 0 < suc (length cells) → cond b (suc (agreeing cells table)) 0 <
         suc (length table)
         → get_or (t ∷ table) (cond b (suc (agreeing cells table)) 0) 0 ≡ get_or (c ∷ cells) (cond b (suc (agreeing cells table)) 0) 0 → ⊥
     by_cell f true e h l = f (omega arith) (omega arith)

@@ -1,6 +1,7 @@
 // A handed table: the entries are read afresh, 12 where it is not the one that the file gives, then the pool's checks; and what every
 // lookup asks of its slot. The table is compared while the entries are read, so that no second one is needed.
 #![tactic(auto)]
+
 ghost use Rattle.std.specs.Prelude.{◌≡◌, eqb};
 ghost use Rattle.reads.specs.Answer.{mapped, require};
 ghost use Rattle.reads.specs.Promise.{Is, reading_check};

@@ -1,5 +1,6 @@
 // Every slot of a handed table's pool in one reading: its tag and two numbers, into lent lists.
 #![tactic(auto)]
+
 ghost use Rattle.std.specs.Prelude.{◌≡◌, ◌+◌, ◌≤◌, length, replicate};
 ghost use Rattle.reads.specs.Answer.{mapped};
 ghost use Rattle.reads.specs.Promise.{Is};

@@ -1,5 +1,6 @@
 // What C calls: a table is native cells or four big-endian bytes a cell, an answer a struct of numbers.
 #![tactic(auto)]
+
 ghost use Rattle.std.specs.Prelude.{◌≡◌, ◌/◌, length};
 ghost use Rattle.reads.specs.Answer.{mapped};
 ghost use Rattle.reads.specs.Tables.{after};

@@ -1,5 +1,6 @@
 // Runs lookups. A line is the lookup, the file, the handed table with four bytes a cell, and the slot that is asked for.
 #![tactic(auto)]
+
 ghost use Rattle.std.specs.Prelude.{◌≡◌, ◌≤◌, length, take};
 
 use literal::LiteralAnswer;

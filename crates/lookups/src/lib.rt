@@ -1,6 +1,7 @@
 // Lookups in a handed table: one for each kind of entry, in two steps. The table is judged, and then the slot that is asked for: 7 where it
 // is P or more, 8 where it is no entry of the kind. Texts are answered by their Utf8 slot.
 #![tactic(auto)]
+
 ghost use Rattle.std.specs.Prelude.{◌≡◌};
 ghost use Rattle.reads.specs.Promise.{Is, reading2};
 ghost use Rattle.pool.specs.Pool.{seen};

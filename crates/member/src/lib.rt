@@ -1,5 +1,6 @@
 // A field or a method, judged line by line up to its attributes: names, descriptors, shape, duplicates, room.
 #![tactic(auto)]
+
 ghost use Rattle.std.specs.Prelude.{◌≡◌, ◌&&◌, ◌+◌, ◌<◌};
 ghost use Rattle.reads.specs.Answer.{mapped};
 ghost use Rattle.reads.specs.Bytes.{u2};

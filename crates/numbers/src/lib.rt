@@ -1,5 +1,6 @@
 // Structs of numbers that C calls answer with, and what fills them from the answers of the reader.
 #![tactic(auto)]
+
 ghost use Rattle.std.specs.Prelude.{◌≡◌, ◌%◌};
 ghost use Rattle.pool.specs.Readings.{reading_pool};
 ghost use Rattle.dependants.specs.Readings.{reading_listed};

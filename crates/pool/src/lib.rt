@@ -1,5 +1,6 @@
 // The pool's entries, read into a lent table: cell n is the file offset of slot n's tag byte, 0 for Zero and Unused.
 #![tactic(auto)]
+
 ghost use Rattle.std.specs.Prelude.{◌≡◌, ◌+◌, ◌≤◌, length, replicate};
 ghost use Rattle.reads.specs.Answer.{mapped};
 ghost use Rattle.reads.specs.Promise.{Is, reading2};

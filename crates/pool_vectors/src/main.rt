@@ -1,5 +1,6 @@
 // Runs vectors of the pool call: how many cells are lent and a file, answered by what `read_pool` says and the table afterwards.
 #![tactic(auto)]
+
 ghost use Rattle.std.specs.Prelude.{◌≡◌, ◌≤◌, length, take};
 
 use pool::PoolAnswer;

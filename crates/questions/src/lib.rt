@@ -1,6 +1,7 @@
 // Every lookup as one question with one reply, a struct of numbers, in a handed table that is bytes: the entries are read afresh into
 // cells of this crate's own, as many as are enough for the file, and the table is held against them.
 #![tactic(auto)]
+
 ghost use Rattle.std.specs.Prelude.{◌≡◌, ◌≤◌, length};
 ghost use Rattle.reads.specs.Promise.{reading2};
 ghost use Rattle.handed.specs.Handed.{handed as handed_pool, lookup};

@@ -1,6 +1,7 @@
 // What the programs that run vectors share. A script is lines; a line is words with one space between them: a command,
 // then decimal numbers or byte strings in hexadecimal, `-` for an empty one. The answer is written behind the line.
 #![tactic(auto)]
+
 ghost use Rattle.std.specs.Prelude.{◌≡◌, ◌+◌, ◌-◌, ◌≤◌, ◌<◌, true, length, take, drop};
 ghost use Rattle.script.specs.Script.{until, line_at, past, word_from, word_at, asked, digit, joined, filled, decimal};
 

@@ -1,6 +1,7 @@
 // What stands in a slot of the pool, and what a slot must be that is named. A function here takes the file, its major version, a table
 // and how many of its cells are slots; outside of these it reads 0.
 #![tactic(auto)]
+
 ghost use Rattle.std.specs.Prelude.{◌≡◌};
 ghost use Rattle.reads.specs.Promise.{Is, reading_check};
 ghost use Rattle.text.specs.Text.{is_text};

@@ -1,5 +1,6 @@
 // Text and names, on the bytes of a Utf8 entry: names.rs, and what text is.
 #![tactic(auto)]
+
 ghost use Rattle.std.specs.Prelude.{◌≡◌, [], ◌∷◌, false, not, ◌&&◌, drop};
 ghost use Rattle.text.specs.Text.{one_of, before, begins, form_length, pair_form, wide_forms, text_form, run, is_text};
 ghost use Rattle.text.specs.Text.{marks, method_marks, name_marks, plain, unqualified, binary, follows, walked, whole};

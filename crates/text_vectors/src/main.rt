@@ -1,5 +1,6 @@
 // Runs vectors of texts, names and descriptors: a command and bytes in hexadecimal, answered by a verdict or a number.
 #![tactic(auto)]
+
 ghost use Rattle.std.specs.Prelude.{◌≡◌, ◌+◌, ◌≤◌, length};
 
 // The verdict of a name's rule.

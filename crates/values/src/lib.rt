@@ -1,5 +1,6 @@
 // Lookups of values in a handed table: literals, and the bytes of Utf8 slots.
 #![tactic(auto)]
+
 ghost use Rattle.std.specs.Prelude.{◌≡◌, ◌+◌, ◌≤◌, length};
 ghost use Rattle.reads.specs.Promise.{Is};
 ghost use Rattle.pool.specs.Pool.{seen};

@@ -22,16 +22,15 @@ returns-then-bodies-i c =
     c.loop-left.i c.loop-left.found c.if-bodies-i.true ∙ c.loop-left.invariant.0
 
 pub loop-left-preserved : goal.loop-left-preserved
-loop-left-preserved c =
-    (
-      ap (gathered _ _ _) c.join-found.ensures ∙ gather_go _ _ _ _ _ _ c.loop-left-test.true c.if-titles-i.false c.if-bodies-i.false ∙ c.loop-left.invariant.0,
-      omega (
-        arith,
-        ap (λ (f : Found). f.count) c.join-found.ensures,
-        joined_one (seen c.args.file.now c.args.major c.args.table.now c.args.slots) c.loop-left.found (get_or
-            c.args.titles.now c.loop-left.i 0) (get_or c.args.bodies.now c.loop-left.i 0),
-      ),
-    )
+loop-left-preserved c = (
+  ap (gathered _ _ _) c.join-found.ensures ∙ gather_go _ _ _ _ _ _ c.loop-left-test.true c.if-titles-i.false c.if-bodies-i.false ∙ c.loop-left.invariant.0,
+  omega (
+    arith,
+    ap (λ (f : Found). f.count) c.join-found.ensures,
+    joined_one (seen c.args.file.now c.args.major c.args.table.now c.args.slots) c.loop-left.found (get_or
+        c.args.titles.now c.loop-left.i 0) (get_or c.args.bodies.now c.loop-left.i 0),
+  ),
+)
 
 pub returns : goal.returns
 returns c =

@@ -15,4 +15,7 @@ pub returns-then-list-count : goal.returns-then-list-count
 returns-then-list-count c = is_list_after (no_room _ _ _ _ (got reading_check c.in-Fine.is c.check_range.ensures) c.store-count.result c.store-count.ensures.number (omega (arith, c.store-count.auto.list)) (cleared _ c.store-count.new.list _ c.clear_from.ensures c.store-count.auto.list))
 
 pub returns : goal.returns
-returns c = let h : c.store-count.result ≤ length c.args.list.now = omega (arith, c.store-count.auto.list) in is_list_after (listed _ _ _ _ (got reading_check c.in-Fine.is c.check_range.ensures) c.store-count.result c.store-count.ensures.number h (ended _ c.store-count.new.list _ _ c.store-count.result c.clear_from-2.ensures c.store-count.auto.list (c.store-count.ensures.list h)))
+returns c =
+    let h : c.store-count.result ≤ length c.args.list.now = omega (arith, c.store-count.auto.list) in
+    let kept = c.store-count.auto.list in
+    is_list_after (listed _ _ _ _ (got reading_check c.in-Fine.is c.check_range.ensures) c.store-count.result c.store-count.ensures.number h (ended _ c.store-count.new.list _ _ c.store-count.result c.clear_from-2.ensures kept (c.store-count.ensures.list h)))

@@ -27,13 +27,13 @@ pub returns-then-b-eq74 : goal.returns-then-b-eq74
 unfolding one_of
 returns-then-b-eq74 c =
     simp (
-  ne_eqb _ _ c.if-b-eq66.false,
-  ne_eqb _ _ c.if-b-eq67.false,
-  ne_eqb _ _ c.if-b-eq68.false,
-  ne_eqb _ _ c.if-b-eq70.false,
-  ne_eqb _ _ c.if-b-eq73.false,
-  eq-eqb _ _ c.if-b-eq74.true,
-)
+      ne_eqb _ _ c.if-b-eq66.false,
+      ne_eqb _ _ c.if-b-eq67.false,
+      ne_eqb _ _ c.if-b-eq68.false,
+      ne_eqb _ _ c.if-b-eq70.false,
+      ne_eqb _ _ c.if-b-eq73.false,
+      eq-eqb _ _ c.if-b-eq74.true,
+    )
 
 pub returns-then-b-eq83 : goal.returns-then-b-eq83
 unfolding one_of

@@ -14,12 +14,12 @@ pub returns-then-not-stands_at-2 : goal.returns-then-not-stands_at-2
 unfolding method_descriptor
 returns-then-not-stands_at-2 c =
     simp (
-  ← c.stands_at.ensures,
-  c.if-not-stands_at.false,
-  ← c.parameters_end-end.ensures,
-  ← c.stands_at-2.ensures,
-  c.if-not-stands_at-2.true,
-)
+      ← c.stands_at.ensures,
+      c.if-not-stands_at.false,
+      ← c.parameters_end-end.ensures,
+      ← c.stands_at-2.ensures,
+      c.if-not-stands_at-2.true,
+    )
 
 pub overflow_add-end : goal.overflow_add-end
 overflow_add-end c =

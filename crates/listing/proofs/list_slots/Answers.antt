@@ -9,13 +9,12 @@ use Rattle.reads.proofs.Clauses.{answer_lists}
 use Rattle.listing.proofs.list_slots.Goals as goal
 
 pub list_all-requires : goal.list_all-requires
-list_all-requires c =
-    (
-      short _ _ _ (got reading_pool c.in-Accepted.is c.check_handed.ensures),
-      c.clear_bytes.ensures ∙ ap (λ (k : ℕ). replicate k 0) (sym c.clear_bytes.auto.table),
-      c.clear.ensures ∙ ap (λ (k : ℕ). replicate k 0) (sym c.clear.auto.table),
-      c.clear-2.ensures ∙ ap (λ (k : ℕ). replicate k 0) (sym c.clear-2.auto.table),
-    )
+list_all-requires c = (
+  short _ _ _ (got reading_pool c.in-Accepted.is c.check_handed.ensures),
+  c.clear_bytes.ensures ∙ ap (λ (k : ℕ). replicate k 0) (sym c.clear_bytes.auto.table),
+  c.clear.ensures ∙ ap (λ (k : ℕ). replicate k 0) (sym c.clear.auto.table),
+  c.clear-2.ensures ∙ ap (λ (k : ℕ). replicate k 0) (sym c.clear-2.auto.table),
+)
 
 pub returns-in-Refused : goal.returns-in-Refused
 returns-in-Refused c = answer_lists (refuses _ _ _ _ _ _ _ _ _ _ _ (got reading_pool c.in-Refused.is c.check_handed.ensures) c.clear_bytes.ensures c.clear.ensures c.clear-2.ensures)

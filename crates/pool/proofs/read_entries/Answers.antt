@@ -9,11 +9,10 @@ use Rattle.pool.proofs.Edge.{no_header, filled}
 use Rattle.pool.proofs.read_entries.Goals as goal
 
 pub fill-requires : goal.fill-requires
-fill-requires c =
-    (
-      header_in _ _ (got reading_header c.in-Got.is c.header_of.ensures),
-      c.clear.ensures ∙ ap (λ (k : ℕ). replicate k 0) (sym c.clear.auto.table),
-    )
+fill-requires c = (
+  header_in _ _ (got reading_header c.in-Got.is c.header_of.ensures),
+  c.clear.ensures ∙ ap (λ (k : ℕ). replicate k 0) (sym c.clear.auto.table),
+)
 
 pub returns-in-Refused-clause-answer : goal.returns-in-Refused-clause-answer
 returns-in-Refused-clause-answer c = (no_header _ _ _ _ _ (got reading_header c.in-Refused.is c.header_of.ensures) c.clear.ensures).0
