@@ -1,4 +1,3 @@
-mod Again
 pub mod Each
 pub mod Recorded
 pub mod Within

@@ -4,7 +4,7 @@ use native.Mathlib.Omega.{arith}
 use mathlib.Core.Path.{◌≡◌, refl, sym, ap, subst, ◌∙◌}
 use mathlib.Core.List.{List}
 use lib.ListN.{length, replicate}
-use denote.Ref.{Bor}
+use denote.Ref.{Bor, MutBor}
 use contract.Lifetimes.{Lfts}
 use Rattle.reads.specs.Answer.{Answer, accept, refuse, mapped}
 use Rattle.reads.specs.Promise.{Is}
@@ -92,16 +92,19 @@ module _ (s table : List ℕ) (w : Whole) (o : accept w ≡ handed s table) (n k
 abbrev Slice : Type 0
 Slice = Bor (List ℕ)
 
-abbrev Two : Type 0
-Two = Slice × (Slice × Unit {0})
+abbrev LentSlice : Type 0
+LentSlice = MutBor (List ℕ)
 
-module _ (file table : Slice) (b : Bytes file.now) (κs : Lfts 2) (y : PoolAnswer) (d : Two) (r : read_pool_reads.Learnt κs (file, (table, tt)) y d) where
+abbrev Two : Type 0
+Two = Slice × (LentSlice × Unit {0})
+
+module _ (file : Slice) (table : LentSlice) (b : Bytes file.now) (κs : Lfts 2) (y : PoolAnswer) (d : Two) (r : read_pool_reads.Learnt κs (file, (table, tt)) y d) where
   -- where it accepts there is a pool ..
   pub pool_accepted : (h : Head) → Is reading_pool (accept h) y → (w : Whole) × (accept w ≡ pool file.now (length table.now))
   pool_accepted h q = whole_of (pool file.now (length table.now)) h (sym q ∙ r.0)
 
   -- .. of which, on the table that it left, the dependants of a slot are asked
-  module _ (w : Whole) (e : accept w ≡ pool file.now (length table.now)) (again given list : Slice) (f : again.now ≡ file.now) (t : given.now ≡ d.1.0.now) where
+  module _ (w : Whole) (e : accept w ≡ pool file.now (length table.now)) (again given : Slice) (list : LentSlice) (f : again.now ≡ file.now) (t : given.now ≡ d.1.0.now) where
     taken : accept w ≡ handed again.now given.now
     taken = rw (f, t ∙ r.1) (left file.now b (length table.now) w e)
 
@@ -118,14 +121,14 @@ module _ (file table : Slice) (b : Bytes file.now) (κs : Lfts 2) (y : PoolAnswe
 
 -- ---- the same cells in a longer table, with zeros
 
-module _ (file : Slice) (b : Bytes file.now) (room : ℕ) (w : Whole) (e : accept w ≡ pool file.now room) (len : ℕ) (fits : slots w.pool ≤ len) (given list : Slice) (t : given.now ≡ padded 0 len w.pool.cells) where
+module _ (file : Slice) (b : Bytes file.now) (room : ℕ) (w : Whole) (e : accept w ≡ pool file.now room) (len : ℕ) (fits : slots w.pool ≤ len) (given : Slice) (list : LentSlice) (t : given.now ≡ padded 0 len w.pool.cells) where
   pub demand_3_padded : (κs : _) (n : ℕ) → n < slots w.pool → (z : DependantsAnswer) (o : _) → dependants_reads.Learnt κs (file, (given, (n, (list, tt)))) z o → Demand3 w.pool n (length list.now) (λ x. Is reading_listed x z) o.1.1.1.0.now
   demand_3_padded κs n h z o l = of_accepted file.now given.now w (rw t (own file.now b room w e len fits)) n (length list.now) (λ x. Is reading_listed x z) l.0 o.1.1.1.0.now l.1 (λ place q. sym q ∙ l.0) h
 
 -- ---- on bytes: the table as `luo_pool` leaves it, and the list as `luo_dependants` does
 
-module _ (file table : Slice) (b : Bytes file.now) (κs : Lfts 2) (y : LuoPoolAnswer) (d : Two) (r : luo_pool_reads.Learnt κs (file, (table, tt)) y d) where
-  module _ (w : Whole) (e : accept w ≡ pool file.now (length table.now / 4)) (again given list : Slice) (f : again.now ≡ file.now) (t : given.now ≡ d.1.0.now) where
+module _ (file : Slice) (table : LentSlice) (b : Bytes file.now) (κs : Lfts 2) (y : LuoPoolAnswer) (d : Two) (r : luo_pool_reads.Learnt κs (file, (table, tt)) y d) where
+  module _ (w : Whole) (e : accept w ≡ pool file.now (length table.now / 4)) (again given : Slice) (list : LentSlice) (f : again.now ≡ file.now) (t : given.now ≡ d.1.0.now) where
     taken_bytes : accept w ≡ handed again.now (cells_in given.now)
     taken_bytes = rw (f, t ∙ r.1) (table_is_taken file.now b (length table.now) w e)
 

@@ -3,7 +3,7 @@ use Prim.Native.Nat.{ℕ, ◌+◌, ◌*◌, ◌/◌, min}
 use mathlib.Core.Bool.{Bool, false, ◌&&◌}
 use mathlib.Core.List.{List}
 use lib.ListN.{length, take, drop, get_or, replicate}
-use denote.Ref.{Bor}
+use denote.Ref.{Bor, MutBor}
 use Rattle.reads.specs.Bytes.{num1, num2, u1, u2, u4, skipped}
 use Rattle.reads.specs.Promise.{reading1, reading2, reading4, reading_next}
 use Rattle.reads.proofs.least.Reads as least_reads
@@ -38,7 +38,7 @@ use Rattle.ascii.specs.Ascii.{ascii}
 use Rattle.ascii.proofs.is_ascii.Reads as is_ascii_reads
 use Rattle.ascii.proofs.is_ascii_name.Reads as is_ascii_name_reads
 use Rattle.ascii.proofs.is_ascii_binary.Reads as is_ascii_binary_reads
-use Rattle.ascii.proofs.walk_name.Reads as walk_name_reads
+use Rattle.ascii.proofs.walk_name.Reads as ascii_walk_name_reads
 use Rattle.descriptors.specs.Descriptors.{stands, field_descriptor, array_descriptor, method_descriptor, returns_void, takes_nothing}
 use Rattle.descriptors.proofs.stands_at.Reads as stands_at_reads
 use Rattle.descriptors.proofs.is_field_descriptor.Reads as is_field_descriptor_reads
@@ -96,7 +96,7 @@ module _ (s : Bor (List ℕ)) (at : ℕ) where
 
 -- ---- tables made zero, and cells as bytes
 
-module _ (table : Bor (List ℕ)) where
+module _ (table : MutBor (List ℕ)) where
   pub reads-clear : (κs : _) → Leaves (clear_reads.Learnt κs (table, tt)) (λ e. e.0.now) (replicate (length table.now) 0)
   reads-clear κs = gives (λ z e h. h)
 
@@ -106,14 +106,14 @@ module _ (table : Bor (List ℕ)) where
   pub cells-clear_bytes : (κs : _) → Leaves (clear_bytes_reads.Learnt κs (table, tt)) (λ e. e.0.now) (replicate (length table.now) 0)
   cells-clear_bytes κs = gives (λ z e h. h)
 
-  pub cells-cell_at : (κs : _) (i : ℕ) → Equals (cell_at_reads.Learnt κs (table, (i, tt))) (get_or (cells_in table.now) i 0)
-  cells-cell_at κs i = gives (λ z e h. h)
-
   pub cells-cells_out : (κs : _) (cells : Bor (List ℕ)) → Leaves (cells_out_reads.Learnt κs (cells, (table, tt))) (λ e. e.1.0.now) (as_bytes (length table.now) (take (length table.now / 4) cells.now))
   cells-cells_out κs cells = gives (λ z e h. h)
 
   pub cells-list_out : (κs : _) (list : Bor (List ℕ)) → Leaves (list_out_reads.Learnt κs (list, (table, tt))) (λ e. e.1.0.now) (as_bytes (length table.now) (take (length table.now / 4) list.now))
   cells-list_out κs list = gives (λ z e h. h)
+
+pub cells-cell_at : (κs : _) (table : Bor (List ℕ)) (i : ℕ) → Equals (cell_at_reads.Learnt κs (table, (i, tt))) (get_or (cells_in table.now) i 0)
+cells-cell_at κs table i = gives (λ z e h. h)
 
 -- ---- texts, names and descriptors
 
@@ -169,7 +169,7 @@ module _ (s : Bor (List ℕ)) where
   pub ascii-is_ascii_binary : (κs : _) → Equals (is_ascii_binary_reads.Learnt κs (s, tt)) (ascii s.now && binary s.now)
   ascii-is_ascii_binary κs = gives (λ z e h. h)
 
-  pub ascii-walk_name : (κs : _) → Equals (walk_name_reads.Learnt κs (s, tt)) (record { at = walked false s.now; whole = whole false s.now })
+  pub ascii-walk_name : (κs : _) → Equals (ascii_walk_name_reads.Learnt κs (s, tt)) (record { at = walked false s.now; whole = whole false s.now })
   ascii-walk_name κs = gives (λ z e h. λ i. record { at = h.0 i; whole = h.1 i })
 
   pub descriptors-is_field_descriptor : (κs : _) → Equals (is_field_descriptor_reads.Learnt κs (s, tt)) (field_descriptor s.now)

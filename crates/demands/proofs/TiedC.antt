@@ -3,7 +3,7 @@ use Prim.Native.Nat.{ℕ, ◌/◌, ◌≤◌}
 use mathlib.Core.Path.{◌≡◌, refl}
 use mathlib.Core.List.{List, ◌∷◌}
 use lib.ListN.{length, replicate}
-use denote.Ref.{Bor}
+use denote.Ref.{Bor, MutBor}
 use Rattle.reads.specs.Answer.{Answer, refuse, mapped}
 use Rattle.reads.specs.Promise.{reading_check}
 use Rattle.reads.specs.Tables.{after}
@@ -62,7 +62,7 @@ cells_of w = w.pool.cells
 
 -- ---- the pool and the class
 
-module _ (file table : Bor (List ℕ)) where
+module _ (file : Bor (List ℕ)) (table : MutBor (List ℕ)) where
   pub loader-luo_entries : (κs : _) → let room = length table.now in TellsCells (luo_entries_reads.Learnt κs (file, (table, tt))) in_pool head_of (read_pool file.now room) (λ e. e.1.0.now) cells_of room (OfEntries file.now room)
   loader-luo_entries κs = tells_cells in_pool (λ nr byte h. (lies 1 18 of_entries refl nr h.0).0) head_of cells_of _ _ (λ z e h. h) (both (read_only file.now _) (read_placed file.now _))
 
@@ -129,18 +129,18 @@ module _ (file : Bor (List ℕ)) (b : Bytes file.now) (table : Bor (List ℕ)) (
 
   -- ---- the dependants
 
-  module _ (list : Bor (List ℕ)) where
+  module _ (list : MutBor (List ℕ)) where
     abbrev listed : Answer (List ℕ)
     listed = dependants file.now cells n (length list.now / 4)
 
-    pub byte_dependants·list_dependants : (κs : _) → FillsBytes (list_dependants_reads.Learnt κs (file, (table, (n, (list, tt))))) reading_listed length listed (λ e. e.1.1.1.0.now) (λ xs. xs) (length list.now) (Among of_dependants)
-    byte_dependants·list_dependants κs = fills_bytes length (λ xs. xs) _ _ (λ z e h. h) (dependants_only file.now b cells n _)
+    pub byte_dependants-list_dependants : (κs : _) → FillsBytes (list_dependants_reads.Learnt κs (file, (table, (n, (list, tt))))) reading_listed length listed (λ e. e.1.1.1.0.now) (λ xs. xs) (length list.now) (Among of_dependants)
+    byte_dependants-list_dependants κs = fills_bytes length (λ xs. xs) _ _ (λ z e h. h) (dependants_only file.now b cells n _)
 
     pub loader-luo_dependants : (κs : _) → TellsBytes (luo_dependants_reads.Learnt κs (file, (table, (n, (list, tt))))) in_list length listed (λ e. e.1.1.1.0.now) (λ xs. xs) (length list.now) (Among of_dependants)
     loader-luo_dependants κs = tells_bytes in_list (λ nr byte h. (lies 1 18 of_dependants refl nr h).0) length (λ xs. xs) _ _ (λ z e h. h) (dependants_only file.now b cells n _)
 
 -- ---- the entries read afresh into the cells that these calls lend
 
-pub byte_tables·check_afresh : (κs : _) (file table lent : Bor (List ℕ)) → let room = length lent.now in
+pub byte_tables-check_afresh : (κs : _) (file table : Bor (List ℕ)) (lent : MutBor (List ℕ)) → let room = length lent.now in
     Writes (check_afresh_reads.Learnt κs (file, (table, (lent, tt)))) reading_check (afresh file.now (cells_in table.now) room) (λ e. e.1.1.0.now) (after 0 cells_of room (taken file.now (cells_in table.now) room)) (replicate room 0) (Among of_afresh)
-byte_tables·check_afresh κs file table lent = writes (λ z e h. h) (afresh_only file.now (cells_in table.now) _) (λ nr place e. rw (← none_taken file.now (cells_in table.now) (length lent.now) nr place e) refl)
+byte_tables-check_afresh κs file table lent = writes (λ z e h. h) (afresh_only file.now (cells_in table.now) _) (λ nr place e. rw (← none_taken file.now (cells_in table.now) (length lent.now) nr place e) refl)

@@ -4,7 +4,7 @@ use mathlib.Core.Path.{◌≡◌, refl, ap, ◌∙◌}
 use mathlib.Core.Bool.{Bool}
 use mathlib.Core.List.{List, [], ◌∷◌}
 use lib.ListN.{length, get_or, take, drop, replicate}
-use denote.Ref.{Bor}
+use denote.Ref.{Bor, MutBor}
 use borrow.Fn.Claims.{AllOf}
 use Rattle.reads.specs.Answer.{Answer, refuse, mapped}
 use Rattle.reads.specs.Promise.{Is, reading_check}
@@ -32,7 +32,7 @@ use Rattle.class.proofs.read_class.Reads as read_class_reads
 use Rattle.records.specs.declared.Member.{Member}
 use Rattle.records.specs.declared.Attribute.{Attribute}
 use Rattle.records.specs.Records.{Numbers, member_of, members_from, none, Parts, attribute_of, attributes_from, no_attribute}
-use Rattle.records.proofs.Zeros.{refused as no_records}
+use Rattle.records.proofs.Zeros.{refused as none_recorded}
 use Rattle.records.proofs.member_of.Reads as member_of_reads
 use Rattle.records.proofs.attribute_of.Reads as attribute_of_reads
 use Rattle.records.specs.contracts.member_records as member-records
@@ -73,21 +73,24 @@ module _ (file : Bor (List ℕ)) (major : ℕ) (table : Bor (List ℕ)) (slots :
       (member_at k p room n at names.now types.now) (Among of_member)
   member-member_at κs k room n at names types = answers (λ z e h. h) (member_only k p room n at names.now types.now)
 
-  pub class_head·read_head : (κs : _) (at : ℕ) → Answers (read_head_reads.Learnt κs (file, (major, (table, (slots, (at, tt)))))) reading_head (head_at p at) (Among of_head)
-  class_head·read_head κs at = answers (λ z e h. h) (head_only p at)
+  pub class_head-read_head : (κs : _) (at : ℕ) → Answers (read_head_reads.Learnt κs (file, (major, (table, (slots, (at, tt)))))) reading_head (head_at p at) (Among of_head)
+  class_head-read_head κs at = answers (λ z e h. h) (head_only p at)
 
-  pub class_head·read_interfaces : (κs : _) (at : ℕ) (list : Bor (List ℕ)) → let room = length list.now in
+  pub class_head-read_interfaces : (κs : _) (at : ℕ) (list : MutBor (List ℕ)) → let room = length list.now in
       Fills (read_interfaces_reads.Learnt κs (file, (major, (table, (slots, (at, (list, tt))))))) reading_listed listed_of (interfaces_at p room at) (λ e. e.1.1.1.1.1.0.now) (λ m. m.list) room (Among of_interfaces)
-  class_head·read_interfaces κs at list = fills listed_of (λ m. m.list) _ _ (λ z e h. h) (interfaces_only p _ at)
+  class_head-read_interfaces κs at list = fills listed_of (λ m. m.list) _ _ (λ z e h. h) (interfaces_only p _ at)
 
 -- ---- a whole file, into the pool's table, the interfaces and eight columns
 
 abbrev Slice : Type 0
 Slice = Bor (List ℕ)
 
+abbrev LentSlice : Type 0
+LentSlice = MutBor (List ℕ)
+
 -- the file, the pool's table, the interfaces, the columns; and further ones
 abbrev pub Slices : Type 0 → Type 0
-Slices More = Slice × (Slice × (Slice × (Slice × (Slice × (Slice × (Slice × (Slice × (Slice × (Slice × (Slice × More))))))))))
+Slices More = Slice × (LentSlice × (LentSlice × (LentSlice × (LentSlice × (LentSlice × (LentSlice × (LentSlice × (LentSlice × (LentSlice × (LentSlice × More))))))))))
 
 -- what they hold
 abbrev pub lent_in : {More : Type 0} → Slices More → Lent
@@ -125,7 +128,7 @@ module _ (a : Slices (Unit {0})) where
   pub records-cleared : (κs : _) (z : ClassAnswer) (e : Slices (Unit {0})) → read_class_reads.Learnt κs a z e → (nr place n : ℕ) → Is reading_class (refuse nr place) z → members_from (numbers_of (lent_in e).columns) 0 n ≡ replicate n none
   records-cleared κs z e h nr place n q =
       let k : (lent_in e).columns ≡ zeros (c a) = ap (λ (l : Lent). l.columns) ((class-read_class κs).refused z e h nr place q).1 in
-      ap (λ (d : Columns). members_from (numbers_of d) 0 n) k ∙ (no_records (length ((c a).member Flags)) (length ((c a).member Names)) (length ((c a).member Types)) (length ((c a).member Firsts)) (length ((c a).member Counts)) 0 n)
+      ap (λ (d : Columns). members_from (numbers_of d) 0 n) k ∙ (none_recorded (length ((c a).member Flags)) (length ((c a).member Names)) (length ((c a).member Types)) (length ((c a).member Firsts)) (length ((c a).member Counts)) 0 n)
 
 -- ---- records
 
@@ -136,7 +139,7 @@ module _ (flags names types firsts counts : Slice) where
   pub records-member_of : (κs : _) (i : ℕ) → Equals (member_of_reads.Learnt κs (flags, (names, (types, (firsts, (counts, (i, tt))))))) (member_of numbers i)
   records-member_of κs i = gives (λ z e h. h)
 
-  pub records-member_records : (κs : _) (records : Bor (List Member)) → Claims member-records.ended (λ M 𝓤. member-records.clauses 𝓤) κs (flags, (names, (types, (firsts, (counts, (records, tt))))))
+  pub records-member_records : (κs : _) (records : MutBor (List Member)) → Claims member-records.ended (λ M 𝓤 𝓛. member-records.clauses 𝓛) κs (flags, (names, (types, (firsts, (counts, (records, tt))))))
       (λ z e. (e.1.1.1.1.1.0.now ≡ members_from numbers 0 (length records.now)) ∷ [])
   records-member_records κs records = record { text = λ w g z e. refl }
 
@@ -147,20 +150,20 @@ module _ (titles bodies lengths : Slice) where
   pub records-attribute_of : (κs : _) (i : ℕ) → Equals (attribute_of_reads.Learnt κs (titles, (bodies, (lengths, (i, tt))))) (attribute_of parts i)
   records-attribute_of κs i = gives (λ z e h. h)
 
-  pub records-attribute_records : (κs : _) (records : Bor (List Attribute)) → Claims attribute-records.ended (λ M 𝓤. attribute-records.clauses 𝓤) κs (titles, (bodies, (lengths, (records, tt))))
+  pub records-attribute_records : (κs : _) (records : MutBor (List Attribute)) → Claims attribute-records.ended (λ M 𝓤 𝓛. attribute-records.clauses 𝓛) κs (titles, (bodies, (lengths, (records, tt))))
       (λ z e. (e.1.1.1.0.now ≡ attributes_from parts 0 (length records.now)) ∷ [])
   records-attribute_records κs records = record { text = λ w g z e. refl }
 
-pub records-record_at : (κs : _) (records : Bor (List Member)) (i : ℕ) → Claims member-record-at.ended (λ M 𝓤. member-record-at.clauses 𝓤) κs (records, (i, tt)) (λ z e. (z ≡ get_or records.now i none) ∷ [])
+pub records-record_at : (κs : _) (records : Bor (List Member)) (i : ℕ) → Claims member-record-at.ended (λ M 𝓤 𝓛. member-record-at.clauses 𝓛) κs (records, (i, tt)) (λ z e. (z ≡ get_or records.now i none) ∷ [])
 records-record_at κs records i = record { text = λ w g z e. refl }
 
-pub records-attribute_at : (κs : _) (records : Bor (List Attribute)) (i : ℕ) → Claims attribute-at.ended (λ M 𝓤. attribute-at.clauses 𝓤) κs (records, (i, tt)) (λ z e. (z ≡ get_or records.now i no_attribute) ∷ [])
+pub records-attribute_at : (κs : _) (records : Bor (List Attribute)) (i : ℕ) → Claims attribute-at.ended (λ M 𝓤 𝓛. attribute-at.clauses 𝓛) κs (records, (i, tt)) (λ z e. (z ≡ get_or records.now i no_attribute) ∷ [])
 records-attribute_at κs records i = record { text = λ w g z e. refl }
 
 -- ---- a whole file with its records, in the least of the rooms: every table zero after a refusal, those of records too
 
 abbrev WithRecords : Type 0
-WithRecords = Slices (Bor (List Member) × (Bor (List Attribute) × Unit {0}))
+WithRecords = Slices (MutBor (List Member) × (MutBor (List Attribute) × Unit {0}))
 
 abbrev all_in : WithRecords → LentRecords
 all_in a = record { lent = lent_in a; records = (more a).0.now; attributes = (more a).1.0.now }
@@ -183,11 +186,11 @@ module _ (a : WithRecords) where
       ∷ (((lent_in e).cells ≡ t.lent.cells) × (((lent_in e).interfaces ≡ t.lent.interfaces) × ((lent_in e).columns ≡ t.lent.columns)))
       ∷ (((all_in e).records ≡ t.records) × ((all_in e).attributes ≡ t.attributes)) ∷ []
 
-  pub class_records·read_class_records : (κs : _) → Claims read-class-records.ended (λ M 𝓤. read-class-records.clauses 𝓤) κs a claimed
-  class_records·read_class_records κs = record { text = λ w g z e. refl }
+  pub class_records-read_class_records : (κs : _) → Claims read-class-records.ended (λ M 𝓤 𝓛. read-class-records.clauses 𝓛) κs a claimed
+  class_records-read_class_records κs = record { text = λ w g z e. refl }
 
-  pub class_records·kept : Writes (λ z e. AllOf (claimed z e)) reading_class (mapped class_of y) all_in (records_into (room a) (len a) (c a) n k y) (no_records (room a) (len a) (c a) n k) (OfFile (s a) (room a))
-  class_records·kept =
+  pub class_records-kept : Writes (λ z e. AllOf (claimed z e)) reading_class (mapped class_of y) all_in (records_into (room a) (len a) (c a) n k y) (no_records (room a) (len a) (c a) n k) (OfFile (s a) (room a))
+  class_records-kept =
       writes_part class_of (records_into (room a) (len a) (c a) n k) y (λ _ _. refl)
       (λ z e h. (h.0, λ i. record { lent = record { cells = h.1.0.0 i; interfaces = h.1.0.1.0 i; columns = h.1.0.1.1 i }; records = h.1.1.0 i; attributes = h.1.1.1 i }))
       (both (file_only (s a) (rooms_with (room a) (len a) (c a) n k)) (class_placed (s a) (rooms_with (room a) (len a) (c a) n k)))

@@ -2,7 +2,7 @@
 use Prim.Native.Nat.{ℕ, ◌+◌}
 use mathlib.Core.List.{List, []}
 use lib.ListN.{length}
-use denote.Ref.{Bor}
+use denote.Ref.{Bor, MutBor}
 use Rattle.reads.specs.Answer.{accept}
 use Rattle.reads.specs.Promise.{reading2}
 use Rattle.pool.proofs.Room.{Bytes}
@@ -87,7 +87,7 @@ module _ (file : Bor (List ℕ)) (b : Bytes file.now) (table : Bor (List ℕ)) (
   pub views-literal_of : (κs : _) → Answers (literal_of_reads.Learnt κs (file, (table, (n, tt)))) reading_literal (lookup file.now table.now (literal_at n)) (OfLookup file.now table.now n)
   views-literal_of κs = answers (λ z e h. h) (literal_looked file.now b table.now n)
 
-  pub dependants-dependants : (κs : _) (list : Bor (List ℕ)) → let room = length list.now in
+  pub dependants-dependants : (κs : _) (list : MutBor (List ℕ)) → let room = length list.now in
       Fills (dependants_reads.Learnt κs (file, (table, (n, (list, tt))))) reading_listed length (dependants_of file.now table.now n room) (λ e. e.1.1.1.0.now) (λ xs. xs) room (Among of_dependants)
   dependants-dependants κs list = fills length (λ xs. xs) _ _ (λ z e h. h) (dependants_only file.now b table.now n _)
 

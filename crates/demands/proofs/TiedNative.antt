@@ -4,7 +4,7 @@ use mathlib.Core.Path.{◌≡◌, refl}
 use mathlib.Core.List.{List, ◌∷◌}
 use lib.ListN.{length, replicate}
 use lib.Dec.{leb}
-use denote.Ref.{Bor}
+use denote.Ref.{Bor, MutBor}
 use Rattle.reads.specs.Answer.{Answer, mapped, require}
 use Rattle.reads.specs.Tables.{after}
 use Rattle.pool.specs.Pool.{Pool, Whole, slots}
@@ -76,15 +76,15 @@ cells_of w = w.pool.cells
 
 -- ---- the pool
 
-module _ (file table : Bor (List ℕ)) where
+module _ (file : Bor (List ℕ)) (table : MutBor (List ℕ)) where
   pub loader-luo_pool32 : (κs : _) → let room = length table.now in TellsCells (luo_pool32_reads.Learnt κs (file, (table, tt))) in_pool head_of (pool file.now room) (λ e. e.1.0.now) cells_of room (OfPool file.now room)
   loader-luo_pool32 κs = tells_cells in_pool (λ nr byte h. (lies 1 18 of_pool refl nr h.0).0) head_of cells_of _ _ (λ z e h. h) (both (pool_only file.now _) (pool_placed file.now _))
 
-  pub byte_pools·pool_bytes : (κs : _) → let len = length table.now in FillsBytes (pool_bytes_reads.Learnt κs (file, (table, tt))) reading_pool head_of (pool file.now (len / 4)) (λ e. e.1.0.now) cells_of len (OfPool file.now (len / 4))
-  byte_pools·pool_bytes κs = fills_bytes head_of cells_of _ _ (λ z e h. h) (both (pool_only file.now _) (pool_placed file.now _))
+  pub byte_pools-pool_bytes : (κs : _) → let len = length table.now in FillsBytes (pool_bytes_reads.Learnt κs (file, (table, tt))) reading_pool head_of (pool file.now (len / 4)) (λ e. e.1.0.now) cells_of len (OfPool file.now (len / 4))
+  byte_pools-pool_bytes κs = fills_bytes head_of cells_of _ _ (λ z e h. h) (both (pool_only file.now _) (pool_placed file.now _))
 
-pub byte_tables·cells_for : (κs : _) (file : Bor (List ℕ)) → Equals (cells_for_reads.Learnt κs (file, tt)) (enough_for file.now)
-byte_tables·cells_for κs file = gives (λ z e h. h.0)
+pub byte_tables-cells_for : (κs : _) (file : Bor (List ℕ)) → Equals (cells_for_reads.Learnt κs (file, tt)) (enough_for file.now)
+byte_tables-cells_for κs file = gives (λ z e h. h.0)
 
 -- ---- all slots: the refusals of a handed table, and 13
 
@@ -105,11 +105,11 @@ listed_only : (s : List ℕ) → Bytes s → (table : List ℕ) (room : ℕ) →
 unfolding listed_at
 listed_only s b table room = lookup_only s b table (listed_at room) refl (λ p. then (require (leb (slots p) room) 13 (slots p)) _ (need (leb (slots p) room) 13 (slots p) refl) (λ _ _. done _))
 
-module _ (file : Bor (List ℕ)) (b : Bytes file.now) (table tags firsts seconds : Bor (List ℕ)) where
-  abbrev asked : Bor (List ℕ) × (Bor (List ℕ) × (Bor (List ℕ) × (Bor (List ℕ) × (Bor (List ℕ) × Unit {0}))))
+module _ (file : Bor (List ℕ)) (b : Bytes file.now) (table : Bor (List ℕ)) (tags firsts seconds : MutBor (List ℕ)) where
+  abbrev asked : Bor (List ℕ) × (Bor (List ℕ) × (MutBor (List ℕ) × (MutBor (List ℕ) × (MutBor (List ℕ) × Unit {0}))))
   asked = (file, (table, (tags, (firsts, (seconds, tt)))))
 
-  abbrev left_in : Bor (List ℕ) × (Bor (List ℕ) × (Bor (List ℕ) × (Bor (List ℕ) × (Bor (List ℕ) × Unit {0})))) → Lists
+  abbrev left_in : Bor (List ℕ) × (Bor (List ℕ) × (MutBor (List ℕ) × (MutBor (List ℕ) × (MutBor (List ℕ) × Unit {0})))) → Lists
   left_in e = let t = e.1.1 in record { tags = t.0.now; firsts = t.1.0.now; seconds = t.1.1.0.now }
 
   abbrev all : Answer Pool
@@ -177,7 +177,7 @@ module _ (file : Bor (List ℕ)) (b : Bytes file.now) (table : Bor (List ℕ)) (
   pub questions-answer_numbered : (κs : _) (q : Question) (z : Reply) (e : _) → answer_reads.Learnt κs (q, (file, (table, (n, tt)))) z e → z.refusal ∈ 0 ∷ of_handed
   questions-answer_numbered κs q z e h = rw h (reply_numbered file.now b table.now q n)
 
-  pub loader-luo_dependants32 : (κs : _) (list : Bor (List ℕ)) → let room = length list.now in
+  pub loader-luo_dependants32 : (κs : _) (list : MutBor (List ℕ)) → let room = length list.now in
       TellsCells (luo_dependants32_reads.Learnt κs (file, (table, (n, (list, tt))))) in_list length (dependants file.now table.now n room) (λ e. e.1.1.1.0.now) (λ xs. xs) room (Among of_dependants)
   loader-luo_dependants32 κs list = tells_cells in_list (λ nr byte h. (lies 1 18 of_dependants refl nr h).0) length (λ xs. xs) _ _ (λ z e h. h) (dependants_only file.now b table.now n _)
 

@@ -5,7 +5,7 @@ use mathlib.Core.Bool.{Bool}
 use mathlib.Core.List.{List, ◌∷◌}
 use lib.ListN.{length}
 use lib.Dec.{eqb}
-use denote.Ref.{Bor}
+use denote.Ref.{Bor, MutBor}
 use Rattle.reads.specs.Answer.{mapped, require}
 use Rattle.reads.specs.Promise.{reading_check}
 use Rattle.pool.specs.Rows.{row_of}
@@ -63,13 +63,14 @@ module _ (file : Bor (List ℕ)) where
   pub pool-slot_at : (κs : _) (major room n : ℕ) (owed : Bool) (at : ℕ) → Answers (slot_at_reads.Learnt κs (file, (major, (room, (n, (owed, (at, tt))))))) reading_slot (slot_at file.now major room n owed at) (Among of_slot)
   pool-slot_at κs major room n owed at = answers (λ z e h. h) (slot_only file.now major room n owed at)
 
-  module _ (table : Bor (List ℕ)) where
+  module _ (table : MutBor (List ℕ)) where
     pub pool-read_entries : (κs : _) → let room = length table.now in Fills (read_entries_reads.Learnt κs (file, (table, tt))) reading_pool head_of (read_pool file.now room) (λ e. e.1.0.now) cells_of room (OfEntries file.now room)
     pool-read_entries κs = fills head_of cells_of _ _ (λ z e h. h) (both (read_only file.now _) (read_placed file.now _))
 
     pub checks-read_pool : (κs : _) → let room = length table.now in Fills (read_pool_reads.Learnt κs (file, (table, tt))) reading_pool head_of (pool file.now room) (λ e. e.1.0.now) cells_of room (OfPool file.now room)
     checks-read_pool κs = fills head_of cells_of _ _ (λ z e h. h) (both (pool_only file.now _) (pool_placed file.now _))
 
+  module _ (table : Bor (List ℕ)) where
     pub handed-check_handed : Bytes file.now → (κs : _) → Answers (check_handed_reads.Learnt κs (file, (table, tt))) reading_pool (mapped head_of (handed file.now table.now)) (Among of_handed)
     handed-check_handed b κs = answers (λ z e h. h) (head_handed_only file.now b table.now)
 

@@ -3,8 +3,7 @@ use Prim.Native.Nat.{ℕ, ◌+◌}
 use mathlib.Core.Path.{◌≡◌, refl}
 use mathlib.Core.List.{List, [], ◌∷◌}
 use lib.ListN.{length}
-use denote.Ref.{Bor}
-use denote.Triple.Clauses.{Ended}
+use denote.Ref.{Bor, MutBor}
 use borrow.Fn.Claims.{AllOf}
 use Rattle.reads.specs.Answer.{mapped}
 use Rattle.reads.specs.Promise.{Is}
@@ -54,7 +53,7 @@ abbrev held : Bor (List ℕ) → Bor (List ℕ) → PoolView → Type 0
 held file table z = (z.file ≡ file) × (z.table ≡ table)
 
 module _ (file table : Bor (List ℕ)) where
-  pub views-view : (κs : _) → Claims make-view.ended (λ M 𝓤. make-view.clauses 𝓤) κs (file, (table, tt)) (λ z e. held file table z ∷ [])
+  pub views-view : (κs : _) → Claims make-view.ended (λ M 𝓤 𝓛. make-view.clauses 𝓛) κs (file, (table, tt)) (λ z e. held file table z ∷ [])
   views-view κs = record { text = λ w g z e. refl }
 
   pub views-view_once : Equals {E = Unit {0}} (λ z _. held file table z) (record { file = file; table = table })
@@ -63,40 +62,40 @@ module _ (file table : Bor (List ℕ)) where
 -- ---- a lookup over it
 
 module _ (v : PoolView) (n : ℕ) where
-  pub views-literal : (κs : _) → Claims over-literal.ended (λ M 𝓤. over-literal.clauses 𝓤) κs (v, (n, tt)) (λ z e. literal_reads.Learnt κs (v.file, (v.table, (n, tt))) z (v.file, (v.table, (n, tt))) ∷ [])
+  pub views-literal : (κs : _) → Claims over-literal.ended (λ M 𝓤 𝓛. over-literal.clauses 𝓛) κs (v, (n, tt)) (λ z e. literal_reads.Learnt κs (v.file, (v.table, (n, tt))) z (v.file, (v.table, (n, tt))) ∷ [])
   views-literal κs = record { text = λ w g z e. refl }
 
-  pub views-text_or_raw : (κs : _) → Claims over-text-or-raw.ended (λ M 𝓤. over-text-or-raw.clauses 𝓤) κs (v, (n, tt)) (λ z e. text_or_raw_reads.Learnt κs (v.file, (v.table, (n, tt))) z (v.file, (v.table, (n, tt))) ∷ [])
+  pub views-text_or_raw : (κs : _) → Claims over-text-or-raw.ended (λ M 𝓤 𝓛. over-text-or-raw.clauses 𝓛) κs (v, (n, tt)) (λ z e. text_or_raw_reads.Learnt κs (v.file, (v.table, (n, tt))) z (v.file, (v.table, (n, tt))) ∷ [])
   views-text_or_raw κs = record { text = λ w g z e. refl }
 
-  pub views-class_name : (κs : _) → Claims over-class-name.ended (λ M 𝓤. over-class-name.clauses 𝓤) κs (v, (n, tt)) (λ z e. class_name_reads.Learnt κs (v.file, (v.table, (n, tt))) z (v.file, (v.table, (n, tt))) ∷ [])
+  pub views-class_name : (κs : _) → Claims over-class-name.ended (λ M 𝓤 𝓛. over-class-name.clauses 𝓛) κs (v, (n, tt)) (λ z e. class_name_reads.Learnt κs (v.file, (v.table, (n, tt))) z (v.file, (v.table, (n, tt))) ∷ [])
   views-class_name κs = record { text = λ w g z e. refl }
 
-  pub views-module_name : (κs : _) → Claims over-module-name.ended (λ M 𝓤. over-module-name.clauses 𝓤) κs (v, (n, tt)) (λ z e. module_name_reads.Learnt κs (v.file, (v.table, (n, tt))) z (v.file, (v.table, (n, tt))) ∷ [])
+  pub views-module_name : (κs : _) → Claims over-module-name.ended (λ M 𝓤 𝓛. over-module-name.clauses 𝓛) κs (v, (n, tt)) (λ z e. module_name_reads.Learnt κs (v.file, (v.table, (n, tt))) z (v.file, (v.table, (n, tt))) ∷ [])
   views-module_name κs = record { text = λ w g z e. refl }
 
-  pub views-package_name : (κs : _) → Claims over-package-name.ended (λ M 𝓤. over-package-name.clauses 𝓤) κs (v, (n, tt)) (λ z e. package_name_reads.Learnt κs (v.file, (v.table, (n, tt))) z (v.file, (v.table, (n, tt))) ∷ [])
+  pub views-package_name : (κs : _) → Claims over-package-name.ended (λ M 𝓤 𝓛. over-package-name.clauses 𝓛) κs (v, (n, tt)) (λ z e. package_name_reads.Learnt κs (v.file, (v.table, (n, tt))) z (v.file, (v.table, (n, tt))) ∷ [])
   views-package_name κs = record { text = λ w g z e. refl }
 
-  pub views-method_type : (κs : _) → Claims over-method-type.ended (λ M 𝓤. over-method-type.clauses 𝓤) κs (v, (n, tt)) (λ z e. method_type_reads.Learnt κs (v.file, (v.table, (n, tt))) z (v.file, (v.table, (n, tt))) ∷ [])
+  pub views-method_type : (κs : _) → Claims over-method-type.ended (λ M 𝓤 𝓛. over-method-type.clauses 𝓛) κs (v, (n, tt)) (λ z e. method_type_reads.Learnt κs (v.file, (v.table, (n, tt))) z (v.file, (v.table, (n, tt))) ∷ [])
   views-method_type κs = record { text = λ w g z e. refl }
 
-  pub views-name_and_type : (κs : _) → Claims over-name-and-type.ended (λ M 𝓤. over-name-and-type.clauses 𝓤) κs (v, (n, tt)) (λ z e. name_and_type_reads.Learnt κs (v.file, (v.table, (n, tt))) z (v.file, (v.table, (n, tt))) ∷ [])
+  pub views-name_and_type : (κs : _) → Claims over-name-and-type.ended (λ M 𝓤 𝓛. over-name-and-type.clauses 𝓛) κs (v, (n, tt)) (λ z e. name_and_type_reads.Learnt κs (v.file, (v.table, (n, tt))) z (v.file, (v.table, (n, tt))) ∷ [])
   views-name_and_type κs = record { text = λ w g z e. refl }
 
-  pub views-member_reference : (κs : _) → Claims over-member-reference.ended (λ M 𝓤. over-member-reference.clauses 𝓤) κs (v, (n, tt)) (λ z e. member_reference_reads.Learnt κs (v.file, (v.table, (n, tt))) z (v.file, (v.table, (n, tt))) ∷ [])
+  pub views-member_reference : (κs : _) → Claims over-member-reference.ended (λ M 𝓤 𝓛. over-member-reference.clauses 𝓛) κs (v, (n, tt)) (λ z e. member_reference_reads.Learnt κs (v.file, (v.table, (n, tt))) z (v.file, (v.table, (n, tt))) ∷ [])
   views-member_reference κs = record { text = λ w g z e. refl }
 
-  pub views-method_handle : (κs : _) → Claims over-method-handle.ended (λ M 𝓤. over-method-handle.clauses 𝓤) κs (v, (n, tt)) (λ z e. method_handle_reads.Learnt κs (v.file, (v.table, (n, tt))) z (v.file, (v.table, (n, tt))) ∷ [])
+  pub views-method_handle : (κs : _) → Claims over-method-handle.ended (λ M 𝓤 𝓛. over-method-handle.clauses 𝓛) κs (v, (n, tt)) (λ z e. method_handle_reads.Learnt κs (v.file, (v.table, (n, tt))) z (v.file, (v.table, (n, tt))) ∷ [])
   views-method_handle κs = record { text = λ w g z e. refl }
 
-  pub views-dynamic_constant : (κs : _) → Claims over-dynamic-constant.ended (λ M 𝓤. over-dynamic-constant.clauses 𝓤) κs (v, (n, tt)) (λ z e. dynamic_constant_reads.Learnt κs (v.file, (v.table, (n, tt))) z (v.file, (v.table, (n, tt))) ∷ [])
+  pub views-dynamic_constant : (κs : _) → Claims over-dynamic-constant.ended (λ M 𝓤 𝓛. over-dynamic-constant.clauses 𝓛) κs (v, (n, tt)) (λ z e. dynamic_constant_reads.Learnt κs (v.file, (v.table, (n, tt))) z (v.file, (v.table, (n, tt))) ∷ [])
   views-dynamic_constant κs = record { text = λ w g z e. refl }
 
-  pub views-invoke_dynamic : (κs : _) → Claims over-invoke-dynamic.ended (λ M 𝓤. over-invoke-dynamic.clauses 𝓤) κs (v, (n, tt)) (λ z e. invoke_dynamic_reads.Learnt κs (v.file, (v.table, (n, tt))) z (v.file, (v.table, (n, tt))) ∷ [])
+  pub views-invoke_dynamic : (κs : _) → Claims over-invoke-dynamic.ended (λ M 𝓤 𝓛. over-invoke-dynamic.clauses 𝓛) κs (v, (n, tt)) (λ z e. invoke_dynamic_reads.Learnt κs (v.file, (v.table, (n, tt))) z (v.file, (v.table, (n, tt))) ∷ [])
   views-invoke_dynamic κs = record { text = λ w g z e. refl }
 
-  pub views-utf8_span : (κs : _) → Claims over-utf8-span.ended (λ M 𝓤. over-utf8-span.clauses 𝓤) κs (v, (n, tt)) (λ z e. utf8_span_reads.Learnt κs (v.file, (v.table, (n, tt))) z (v.file, (v.table, (n, tt))) ∷ [])
+  pub views-utf8_span : (κs : _) → Claims over-utf8-span.ended (λ M 𝓤 𝓛. over-utf8-span.clauses 𝓛) κs (v, (n, tt)) (λ z e. utf8_span_reads.Learnt κs (v.file, (v.table, (n, tt))) z (v.file, (v.table, (n, tt))) ∷ [])
   views-utf8_span κs = record { text = λ w g z e. refl }
 
   -- a contract of two clauses: these, and as one they are what is promised of the slices
@@ -105,21 +104,21 @@ module _ (v : PoolView) (n : ℕ) where
       (z.now ≡ bytes_in (lookup v.file.now v.table.now (bytes_at n)))
       ∷ ((z.ref_ptr.0 ≡ v.file.ref_ptr.0) × (z.ref_ptr.1 ≡ v.file.ref_ptr.1 + (span_in (lookup v.file.now v.table.now (span_at n))).from)) ∷ []
 
-  pub views-utf8_part : (κs : _) → Claims over-utf8-part.ended (λ M 𝓤. over-utf8-part.clauses 𝓤) κs (v, (n, tt)) (λ z e. part_of z)
+  pub views-utf8_part : (κs : _) → Claims over-utf8-part.ended (λ M 𝓤 𝓛. over-utf8-part.clauses 𝓛) κs (v, (n, tt)) (λ z e. part_of z)
   views-utf8_part κs = record { text = λ w g z e. refl }
 
   pub views-utf8_part_same : (κs : _) (z : Bor (List ℕ)) → utf8_part_reads.Learnt κs (v.file, (v.table, (n, tt))) z (v.file, (v.table, (n, tt))) ≡ AllOf (part_of z)
   views-utf8_part_same κs z = refl
 
-  module _ (list : Bor (List ℕ)) where
-    abbrev listed : DependantsAnswer → Bor (List ℕ) → List (Type 0)
+  module _ (list : MutBor (List ℕ)) where
+    abbrev listed : DependantsAnswer → MutBor (List ℕ) → List (Type 0)
     listed z left =
         let room = length list.now in
         let x = dependants_of v.file.now v.table.now n room in
         Is reading_listed (mapped length x) z ∷ (left.now ≡ after 0 (λ xs. xs) room x) ∷ []
 
-    pub views-dependants : (κs : _) → Claims over-dependants.ended (λ M 𝓤. over-dependants.clauses 𝓤) κs (v, (n, (list, tt))) (λ z e. listed z e.1.1.0)
+    pub views-dependants : (κs : _) → Claims over-dependants.ended (λ M 𝓤 𝓛. over-dependants.clauses 𝓛) κs (v, (n, (list, tt))) (λ z e. listed z e.1.1.0)
     views-dependants κs = record { text = λ w g z e. refl }
 
-    pub views-dependants_same : (κs : _) (z : DependantsAnswer) (left : Bor (List ℕ)) → dependants_reads.Learnt κs (v.file, (v.table, (n, (list, tt)))) z (v.file, (v.table, (n, (left, tt)))) ≡ AllOf (listed z left)
+    pub views-dependants_same : (κs : _) (z : DependantsAnswer) (left : MutBor (List ℕ)) → dependants_reads.Learnt κs (v.file, (v.table, (n, (list, tt)))) z (v.file, (v.table, (n, (left, tt)))) ≡ AllOf (listed z left)
     views-dependants_same κs z left = refl

@@ -3,3 +3,4 @@ pub mod Leaves
 pub mod Tables
 pub mod Columns
 pub mod Placed
+pub mod Clauses

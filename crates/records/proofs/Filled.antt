@@ -1,8 +1,9 @@
 -- A table of records that is filled from the front, one store a turn: f says each. Assumes nothing.
-use mathlib.Core.Path.{◌≡◌, refl, sym, ap, ◌∙◌}
+use mathlib.Core.Path.{◌≡◌, refl, sym, ap, subst, ◌∙◌}
 use Prim.Native.Nat.{ℕ, zero, suc, ◌+◌, ◌≤◌}
-use native.Mathlib.Nat.{le_of_lt, le_refl, add-zero, zero-add, add-suc, suc-add}
+use native.Mathlib.Nat.{le_of_lt, le_refl, le_antisymm, add-zero, zero-add, add-suc, suc-add}
 use mathlib.Core.List.{List, ◌∷◌, ◌++◌, append-nil}
+use Rattle.std.proofs.Common.{add-one}
 use lib.ListN.{length, get_or, set, drop, length-set, drop_of_length-le}
 use lib.Seq.{drop-cons, set_at}
 use Rattle.records.specs.Records.{records_from}
@@ -18,6 +19,11 @@ module _ {A : Type 0} (f : ℕ → A) where
     unfolding fill
     length_fill zero = refl
     length_fill (suc i) = length-set (fill i) i (f i) ∙ length_fill i
+
+    -- one turn more
+    pub fill_more : (i : ℕ) (ys : List A) (y : A) → ys ≡ fill i → y ≡ f i → set ys i y ≡ fill (i + 1)
+    unfolding fill
+    fill_more i ys y e h = ap (λ (l : List A). set l i y) e ∙ ap (λ (v : A). set (fill i) i v) h ∙ sym (ap fill (add-one i))
 
   length_from : (k i : ℕ) → length (records_from f k i) ≡ i
   unfolding records_from
@@ -42,3 +48,7 @@ module _ {A : Type 0} (f : ℕ → A) where
 
     pub filled : fill xs (length xs) ≡ records_from f 0 (length xs)
     filled = filled_to (length xs) (le_refl (length xs)) ∙ ap (λ (l : List A). records_from f 0 (length xs) ++ l) (drop_of_length-le xs (le_refl (length xs))) ∙ append-nil (records_from f 0 (length xs))
+
+    -- after so many turns that no store is left
+    pub filled_at : (i : ℕ) (ys : List A) → ys ≡ fill xs i → i ≤ length xs → length ys ≤ i → ys ≡ records_from f 0 (length xs)
+    filled_at i ys e h k = let n : length xs ≤ i = subst (λ (j : ℕ). j ≤ i) (ap length e ∙ length_fill xs i) k in e ∙ ap (fill xs) (le_antisymm h n) ∙ filled

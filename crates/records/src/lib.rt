@@ -1,5 +1,6 @@
 // Member and attribute records: the numbers that a class's members and attributes are read into, a slice for each, put together into lent tables of records.
 #![tactic(auto)]
+
 ghost use Rattle.std.specs.Prelude.{◌≡◌, length, get_or};
 ghost use Rattle.records.specs.Records.{member_of, members_from, none, attribute_of, attributes_from, no_attribute};
 

@@ -1,6 +1,7 @@
 // A view of a pool: the file and the table of its slots, held together, and each lookup over it. A lookup takes the view apart and calls
 // the function on slices, which does the work.
 #![tactic(auto)]
+
 ghost use Rattle.std.specs.Prelude.{◌≡◌, ◌+◌, length};
 ghost use Rattle.reads.specs.Answer.{mapped};
 ghost use Rattle.reads.specs.Promise.{Is, reading2};

@@ -10,28 +10,17 @@ use Rattle.pool.specs.Readings.{head_of}
 use Rattle.checks.specs.Checks.{pool}
 use Rattle.cells.proofs.Cells.{handed_back}
 use Rattle.byte_tables.proofs.Rooms.{enough}
+use Rattle.reads.proofs.Clauses.{answer_table}
 use Rattle.byte_pools.proofs.pool_in.Goals as goal
 
-pub returns-clause-answer : goal.returns-clause-answer
-returns-clause-answer c =
-    let r = c.read_pool-answer in
+pub returns : goal.returns
+returns c =
     let s = c.args.file.now in
     let n = length c.args.cells.now in
     let len = length c.args.table.now in
     let p = c.requires in
-    let e = enough s (λ i. (c.shared_slice_known-1.given i).fits) (len / 4) n p in ((
-      r.ensures.0 ∙ ap (mapped head_of) e,
-      c.cells_out.ensures ∙ handed_back len (λ (w : Whole). w.pool.cells) n (omega arith) _ (pool s (len / 4)) r.auto.1.0 (r.ensures.1 ∙ ap (after 0 (λ (w : Whole). w.pool.cells) n) e),
-    )).0
-
-pub returns-clause-table : goal.returns-clause-table
-returns-clause-table c =
-    let r = c.read_pool-answer in
-    let s = c.args.file.now in
-    let n = length c.args.cells.now in
-    let len = length c.args.table.now in
-    let p = c.requires in
-    let e = enough s (λ i. (c.shared_slice_known-1.given i).fits) (len / 4) n p in ((
-      r.ensures.0 ∙ ap (mapped head_of) e,
-      c.cells_out.ensures ∙ handed_back len (λ (w : Whole). w.pool.cells) n (omega arith) _ (pool s (len / 4)) r.auto.1.0 (r.ensures.1 ∙ ap (after 0 (λ (w : Whole). w.pool.cells) n) e),
-    )).1
+    let e = enough s (λ i. (c.shared_slice_known-1.given i).fits) (len / 4) n p in
+    answer_table ((
+      c.read_pool-answer.ensures.answer ∙ ap (mapped head_of) e,
+      c.cells_out.ensures ∙ handed_back len (λ (w : Whole). w.pool.cells) n (omega arith) _ (pool s (len / 4)) c.read_pool-answer.auto.table (c.read_pool-answer.ensures.table ∙ ap (after 0 (λ (w : Whole). w.pool.cells) n) e),
+    ))

@@ -7,6 +7,7 @@ use Rattle.reads.proofs.Answers.{got}
 use Rattle.attributes.specs.Readings.{reading_attribute}
 use Rattle.class.specs.Columns.{Titles, Bodies, Lengths}
 use Rattle.class.proofs.Framed.{begin, in_columns, in_file, turn, stopped, finished}
+use Rattle.reads.proofs.Clauses.{answer_tables}
 use Rattle.class.proofs.frame.Goals as goal
 
 pub loop-left-init : goal.loop-left-init
@@ -21,15 +22,10 @@ shape_of-bodies-in-Refused c = c.loop-left.invariant.long Bodies
 pub shape_of-lengths-in-Refused : goal.shape_of-lengths-in-Refused
 shape_of-lengths-in-Refused c = c.loop-left.invariant.long Lengths
 
-pub returns-in-Refused-clause-answer : goal.returns-in-Refused-clause-answer
-returns-in-Refused-clause-answer c =
-    (stopped _ _ _ _ _ _ _ _ _ _ _ c.loop-left.invariant _ _ _ c.loop-left-test.true (got reading_attribute c.in-Refused.is
-    c.record_at.ensures)).0
-
-pub returns-in-Refused-clause-tables : goal.returns-in-Refused-clause-tables
-returns-in-Refused-clause-tables c =
-    (stopped _ _ _ _ _ _ _ _ _ _ _ c.loop-left.invariant _ _ _ c.loop-left-test.true (got reading_attribute c.in-Refused.is
-    c.record_at.ensures)).1
+pub returns-in-Refused : goal.returns-in-Refused
+returns-in-Refused c =
+    answer_tables (stopped _ _ _ _ _ _ _ _ _ _ _ c.loop-left.invariant _ _ _ c.loop-left-test.true (got reading_attribute c.in-Refused.is
+    c.record_at.ensures))
 
 pub offset_bounds-titles-n : goal.offset_bounds-titles-n
 offset_bounds-titles-n c =
@@ -120,8 +116,5 @@ shape_of-bodies c = c.loop-left.invariant.long Bodies
 pub shape_of-lengths : goal.shape_of-lengths
 shape_of-lengths c = c.loop-left.invariant.long Lengths
 
-pub returns-clause-answer : goal.returns-clause-answer
-returns-clause-answer c = (finished _ _ _ _ _ _ _ _ _ _ _ c.loop-left.invariant (omega arith)).0
-
-pub returns-clause-tables : goal.returns-clause-tables
-returns-clause-tables c = (finished _ _ _ _ _ _ _ _ _ _ _ c.loop-left.invariant (omega arith)).1
+pub returns : goal.returns
+returns c = answer_tables (finished _ _ _ _ _ _ _ _ _ _ _ c.loop-left.invariant (omega arith))

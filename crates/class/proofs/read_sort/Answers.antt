@@ -7,13 +7,11 @@ use Rattle.reads.proofs.Leaves.{u2_in}
 use Rattle.member.specs.Readings.{reading_member}
 use Rattle.class.specs.Columns.{Flags, Names, Types, Firsts, Counts, Titles, Bodies, Lengths, lent}
 use Rattle.class.proofs.Rows.{no_count, begin, up_to, in_room, in_columns, turn, not_good, not_framed, finished}
+use Rattle.reads.proofs.Clauses.{answer_tables}
 use Rattle.class.proofs.read_sort.Goals as goal
 
-pub returns-in-Refused-clause-answer : goal.returns-in-Refused-clause-answer
-returns-in-Refused-clause-answer c = let a = c.args in (no_count _ _ _ _ _ _ 0 (lent a.flags.now a.names.now a.types.now a.firsts.now a.counts.now a.titles.now a.bodies.now a.lengths.now) _ _ _ (got reading2 c.in-Refused.is c.read_u2.ensures)).0
-
-pub returns-in-Refused-clause-tables : goal.returns-in-Refused-clause-tables
-returns-in-Refused-clause-tables c = let a = c.args in (no_count _ _ _ _ _ _ 0 (lent a.flags.now a.names.now a.types.now a.firsts.now a.counts.now a.titles.now a.bodies.now a.lengths.now) _ _ _ (got reading2 c.in-Refused.is c.read_u2.ensures)).1
+pub returns-in-Refused : goal.returns-in-Refused
+returns-in-Refused c = let a = c.args in answer_tables (no_count _ _ _ _ _ _ 0 (lent a.flags.now a.names.now a.types.now a.firsts.now a.counts.now a.titles.now a.bodies.now a.lengths.now) _ _ _ (got reading2 c.in-Refused.is c.read_u2.ensures))
 
 pub overflow_add-at : goal.overflow_add-at
 overflow_add-at c =
@@ -92,15 +90,10 @@ shape_of-bodies-in-Refused-member_at c = c.loop-left.invariant.long.attributes B
 pub shape_of-lengths-in-Refused-member_at : goal.shape_of-lengths-in-Refused-member_at
 shape_of-lengths-in-Refused-member_at c = c.loop-left.invariant.long.attributes Lengths
 
-pub returns-in-Refused-member_at-clause-answer : goal.returns-in-Refused-member_at-clause-answer
-returns-in-Refused-member_at-clause-answer c =
-    (not_good _ _ _ _ _ _ _ _ _ _ _ _ _ c.loop-left.invariant (got reading2 c.in-Got.is c.read_u2.ensures) _ _ _
-    c.loop-left-test.true (got reading_member c.in-Refused-member_at.is c.member_at.ensures)).0
-
-pub returns-in-Refused-member_at-clause-tables : goal.returns-in-Refused-member_at-clause-tables
-returns-in-Refused-member_at-clause-tables c =
-    (not_good _ _ _ _ _ _ _ _ _ _ _ _ _ c.loop-left.invariant (got reading2 c.in-Got.is c.read_u2.ensures) _ _ _
-    c.loop-left-test.true (got reading_member c.in-Refused-member_at.is c.member_at.ensures)).1
+pub returns-in-Refused-member_at : goal.returns-in-Refused-member_at
+returns-in-Refused-member_at c =
+    answer_tables (not_good _ _ _ _ _ _ _ _ _ _ _ _ _ c.loop-left.invariant (got reading2 c.in-Got.is c.read_u2.ensures) _ _ _
+    c.loop-left-test.true (got reading_member c.in-Refused-member_at.is c.member_at.ensures))
 
 pub overflow_add-at-in-loop-left : goal.overflow_add-at-in-loop-left
 overflow_add-at-in-loop-left c =
@@ -135,15 +128,10 @@ shape_of-bodies-in-Refused-frame c = c.frame.auto.bodies ∙ c.loop-left.invaria
 pub shape_of-lengths-in-Refused-frame : goal.shape_of-lengths-in-Refused-frame
 shape_of-lengths-in-Refused-frame c = c.frame.auto.lengths ∙ c.loop-left.invariant.long.attributes Lengths
 
-pub returns-in-Refused-frame-clause-answer : goal.returns-in-Refused-frame-clause-answer
-returns-in-Refused-frame-clause-answer c =
-    (not_framed _ _ _ _ _ _ _ _ _ _ _ _ _ c.loop-left.invariant (got reading2 c.in-Got.is c.read_u2.ensures) _ _ _ _
-    c.loop-left-test.true (got reading_member c.in-Got-member_at.is c.member_at.ensures) (got reading_next c.in-Refused-frame.is c.frame.ensures.answer)).0
-
-pub returns-in-Refused-frame-clause-tables : goal.returns-in-Refused-frame-clause-tables
-returns-in-Refused-frame-clause-tables c =
-    (not_framed _ _ _ _ _ _ _ _ _ _ _ _ _ c.loop-left.invariant (got reading2 c.in-Got.is c.read_u2.ensures) _ _ _ _
-    c.loop-left-test.true (got reading_member c.in-Got-member_at.is c.member_at.ensures) (got reading_next c.in-Refused-frame.is c.frame.ensures.answer)).1
+pub returns-in-Refused-frame : goal.returns-in-Refused-frame
+returns-in-Refused-frame c =
+    answer_tables (not_framed _ _ _ _ _ _ _ _ _ _ _ _ _ c.loop-left.invariant (got reading2 c.in-Got.is c.read_u2.ensures) _ _ _ _
+    c.loop-left-test.true (got reading_member c.in-Got-member_at.is c.member_at.ensures) (got reading_next c.in-Refused-frame.is c.frame.ensures.answer))
 
 pub offset_bounds-flags-n : goal.offset_bounds-flags-n
 offset_bounds-flags-n c =
@@ -287,8 +275,5 @@ shape_of-bodies c = c.loop-left.invariant.long.attributes Bodies
 pub shape_of-lengths : goal.shape_of-lengths
 shape_of-lengths c = c.loop-left.invariant.long.attributes Lengths
 
-pub returns-clause-answer : goal.returns-clause-answer
-returns-clause-answer c = (finished _ _ _ _ _ _ _ _ _ _ _ _ _ c.loop-left.invariant (got reading2 c.in-Got.is c.read_u2.ensures) (omega arith)).0
-
-pub returns-clause-tables : goal.returns-clause-tables
-returns-clause-tables c = (finished _ _ _ _ _ _ _ _ _ _ _ _ _ c.loop-left.invariant (got reading2 c.in-Got.is c.read_u2.ensures) (omega arith)).1
+pub returns : goal.returns
+returns c = answer_tables (finished _ _ _ _ _ _ _ _ _ _ _ _ _ c.loop-left.invariant (got reading2 c.in-Got.is c.read_u2.ensures) (omega arith))

@@ -7,6 +7,7 @@ use Rattle.class.specs.Columns.{lent}
 use Rattle.class.specs.Readings.{reading_sorted}
 use Rattle.class.proofs.Rows.{reckoned}
 use Rattle.class.proofs.Tabled.{ready_fields, no_fields, ready_methods, no_methods, room_own, no_own, all_good}
+use Rattle.reads.proofs.Clauses.{answer_tables}
 use Rattle.class.proofs.read_tables.Goals as goal
 
 pub read_sort-requires : goal.read_sort-requires
@@ -15,15 +16,11 @@ read_sort-requires c =
     let l = lent a.flags.now a.names.now a.types.now a.firsts.now a.counts.now a.titles.now a.bodies.now a.lengths.now in
     ready_fields a.f (seen a.file.now a.f.major a.table.now a.f.slots) l _ (reckoned l _ c.least5-room.ensures) _ c.is_marked-in_interface.ensures c.requires
 
-pub returns-in-Refused-clause-answer : goal.returns-in-Refused-clause-answer
-returns-in-Refused-clause-answer c =
+pub returns-in-Refused : goal.returns-in-Refused
+returns-in-Refused c =
     let a = c.args in
-    let l = lent a.flags.now a.names.now a.types.now a.firsts.now a.counts.now a.titles.now a.bodies.now a.lengths.now in (no_fields a.f (seen a.file.now a.f.major a.table.now a.f.slots) l _ (reckoned l _ c.least5-room.ensures) _ c.is_marked-in_interface.ensures c.requires _ _ _ (got reading_sorted c.in-Refused.is c.read_sort.ensures.answer)).0
-
-pub returns-in-Refused-clause-tables : goal.returns-in-Refused-clause-tables
-returns-in-Refused-clause-tables c =
-    let a = c.args in
-    let l = lent a.flags.now a.names.now a.types.now a.firsts.now a.counts.now a.titles.now a.bodies.now a.lengths.now in (no_fields a.f (seen a.file.now a.f.major a.table.now a.f.slots) l _ (reckoned l _ c.least5-room.ensures) _ c.is_marked-in_interface.ensures c.requires _ _ _ (got reading_sorted c.in-Refused.is c.read_sort.ensures.answer)).1
+    let l = lent a.flags.now a.names.now a.types.now a.firsts.now a.counts.now a.titles.now a.bodies.now a.lengths.now in
+    answer_tables (no_fields a.f (seen a.file.now a.f.major a.table.now a.f.slots) l _ (reckoned l _ c.least5-room.ensures) _ c.is_marked-in_interface.ensures c.requires _ _ _ (got reading_sorted c.in-Refused.is c.read_sort.ensures.answer))
 
 pub read_sort-requires-2 : goal.read_sort-requires-2
 read_sort-requires-2 c =
@@ -72,19 +69,13 @@ shape_of-lengths-in-Refused-read_sort c =
     c.read_sort-2.auto.lengths
     ∙ c.read_sort.auto.lengths
 
-pub returns-in-Refused-read_sort-clause-answer : goal.returns-in-Refused-read_sort-clause-answer
-returns-in-Refused-read_sort-clause-answer c =
+pub returns-in-Refused-read_sort : goal.returns-in-Refused-read_sort
+returns-in-Refused-read_sort c =
     let a = c.args in
-    let l = lent a.flags.now a.names.now a.types.now a.firsts.now a.counts.now a.titles.now a.bodies.now a.lengths.now in (no_methods a.f (seen a.file.now a.f.major a.table.now a.f.slots) l _ (reckoned l _ c.least5-room.ensures) _ c.is_marked-in_interface.ensures c.requires _ _ (got reading_sorted
+    let l = lent a.flags.now a.names.now a.types.now a.firsts.now a.counts.now a.titles.now a.bodies.now a.lengths.now in
+    answer_tables (no_methods a.f (seen a.file.now a.f.major a.table.now a.f.slots) l _ (reckoned l _ c.least5-room.ensures) _ c.is_marked-in_interface.ensures c.requires _ _ (got reading_sorted
     c.in-Got.is c.read_sort.ensures.answer) c.read_sort.ensures.tables _ _ _ (got reading_sorted
-    c.in-Refused-read_sort.is c.read_sort-2.ensures.answer)).0
-
-pub returns-in-Refused-read_sort-clause-tables : goal.returns-in-Refused-read_sort-clause-tables
-returns-in-Refused-read_sort-clause-tables c =
-    let a = c.args in
-    let l = lent a.flags.now a.names.now a.types.now a.firsts.now a.counts.now a.titles.now a.bodies.now a.lengths.now in (no_methods a.f (seen a.file.now a.f.major a.table.now a.f.slots) l _ (reckoned l _ c.least5-room.ensures) _ c.is_marked-in_interface.ensures c.requires _ _ (got reading_sorted
-    c.in-Got.is c.read_sort.ensures.answer) c.read_sort.ensures.tables _ _ _ (got reading_sorted
-    c.in-Refused-read_sort.is c.read_sort-2.ensures.answer)).1
+    c.in-Refused-read_sort.is c.read_sort-2.ensures.answer))
 
 pub read_own-requires : goal.read_own-requires
 read_own-requires c =
@@ -98,28 +89,28 @@ read_own-requires c =
 
 pub shape_of-flags-in-Refused-read_own : goal.shape_of-flags-in-Refused-read_own
 shape_of-flags-in-Refused-read_own c =
-    c.read_sort-2.kept.1.1.1.1.1.1.1.1.1.0
-    ∙ c.read_sort.kept.1.1.1.1.1.1.1.1.1.0
+    c.read_sort-2.auto.flags
+    ∙ c.read_sort.auto.flags
 
 pub shape_of-names-in-Refused-read_own : goal.shape_of-names-in-Refused-read_own
 shape_of-names-in-Refused-read_own c =
-    c.read_sort-2.kept.1.1.1.1.1.1.1.1.1.1.0
-    ∙ c.read_sort.kept.1.1.1.1.1.1.1.1.1.1.0
+    c.read_sort-2.auto.names
+    ∙ c.read_sort.auto.names
 
 pub shape_of-types-in-Refused-read_own : goal.shape_of-types-in-Refused-read_own
 shape_of-types-in-Refused-read_own c =
-    c.read_sort-2.kept.1.1.1.1.1.1.1.1.1.1.1.0
-    ∙ c.read_sort.kept.1.1.1.1.1.1.1.1.1.1.1.0
+    c.read_sort-2.auto.types
+    ∙ c.read_sort.auto.types
 
 pub shape_of-firsts-in-Refused-read_own : goal.shape_of-firsts-in-Refused-read_own
 shape_of-firsts-in-Refused-read_own c =
-    c.read_sort-2.kept.1.1.1.1.1.1.1.1.1.1.1.1.0
-    ∙ c.read_sort.kept.1.1.1.1.1.1.1.1.1.1.1.1.0
+    c.read_sort-2.auto.firsts
+    ∙ c.read_sort.auto.firsts
 
 pub shape_of-counts-in-Refused-read_own : goal.shape_of-counts-in-Refused-read_own
 shape_of-counts-in-Refused-read_own c =
-    c.read_sort-2.kept.1.1.1.1.1.1.1.1.1.1.1.1.1.0
-    ∙ c.read_sort.kept.1.1.1.1.1.1.1.1.1.1.1.1.1.0
+    c.read_sort-2.auto.counts
+    ∙ c.read_sort.auto.counts
 
 pub shape_of-titles-in-Refused-read_own : goal.shape_of-titles-in-Refused-read_own
 shape_of-titles-in-Refused-read_own c =
@@ -136,44 +127,38 @@ shape_of-lengths-in-Refused-read_own c =
     c.read_own.auto.lengths ∙ c.read_sort-2.auto.lengths
     ∙ c.read_sort.auto.lengths
 
-pub returns-in-Refused-read_own-clause-answer : goal.returns-in-Refused-read_own-clause-answer
-returns-in-Refused-read_own-clause-answer c =
+pub returns-in-Refused-read_own : goal.returns-in-Refused-read_own
+returns-in-Refused-read_own c =
     let a = c.args in
-    let l = lent a.flags.now a.names.now a.types.now a.firsts.now a.counts.now a.titles.now a.bodies.now a.lengths.now in (no_own a.f (seen a.file.now a.f.major a.table.now a.f.slots) l _ (reckoned l _ c.least5-room.ensures) _ c.is_marked-in_interface.ensures c.requires _ _ (got reading_sorted
+    let l = lent a.flags.now a.names.now a.types.now a.firsts.now a.counts.now a.titles.now a.bodies.now a.lengths.now in
+    answer_tables (no_own a.f (seen a.file.now a.f.major a.table.now a.f.slots) l _ (reckoned l _ c.least5-room.ensures) _ c.is_marked-in_interface.ensures c.requires _ _ (got reading_sorted
     c.in-Got.is c.read_sort.ensures.answer) c.read_sort.ensures.tables _ _ (got reading_sorted
-    c.in-Got-read_sort.is c.read_sort-2.ensures.answer) c.read_sort-2.ensures.tables _ _ _ (got reading2 c.in-Refused-read_own.is c.read_own.ensures.answer)).0
-
-pub returns-in-Refused-read_own-clause-tables : goal.returns-in-Refused-read_own-clause-tables
-returns-in-Refused-read_own-clause-tables c =
-    let a = c.args in
-    let l = lent a.flags.now a.names.now a.types.now a.firsts.now a.counts.now a.titles.now a.bodies.now a.lengths.now in (no_own a.f (seen a.file.now a.f.major a.table.now a.f.slots) l _ (reckoned l _ c.least5-room.ensures) _ c.is_marked-in_interface.ensures c.requires _ _ (got reading_sorted
-    c.in-Got.is c.read_sort.ensures.answer) c.read_sort.ensures.tables _ _ (got reading_sorted
-    c.in-Got-read_sort.is c.read_sort-2.ensures.answer) c.read_sort-2.ensures.tables _ _ _ (got reading2 c.in-Refused-read_own.is c.read_own.ensures.answer)).1
+    c.in-Got-read_sort.is c.read_sort-2.ensures.answer) c.read_sort-2.ensures.tables _ _ _ (got reading2 c.in-Refused-read_own.is c.read_own.ensures.answer))
 
 pub shape_of-flags-in-Got-read_own : goal.shape_of-flags-in-Got-read_own
 shape_of-flags-in-Got-read_own c =
-    c.read_sort-2.kept.1.1.1.1.1.1.1.1.1.0
-    ∙ c.read_sort.kept.1.1.1.1.1.1.1.1.1.0
+    c.read_sort-2.auto.flags
+    ∙ c.read_sort.auto.flags
 
 pub shape_of-names-in-Got-read_own : goal.shape_of-names-in-Got-read_own
 shape_of-names-in-Got-read_own c =
-    c.read_sort-2.kept.1.1.1.1.1.1.1.1.1.1.0
-    ∙ c.read_sort.kept.1.1.1.1.1.1.1.1.1.1.0
+    c.read_sort-2.auto.names
+    ∙ c.read_sort.auto.names
 
 pub shape_of-types-in-Got-read_own : goal.shape_of-types-in-Got-read_own
 shape_of-types-in-Got-read_own c =
-    c.read_sort-2.kept.1.1.1.1.1.1.1.1.1.1.1.0
-    ∙ c.read_sort.kept.1.1.1.1.1.1.1.1.1.1.1.0
+    c.read_sort-2.auto.types
+    ∙ c.read_sort.auto.types
 
 pub shape_of-firsts-in-Got-read_own : goal.shape_of-firsts-in-Got-read_own
 shape_of-firsts-in-Got-read_own c =
-    c.read_sort-2.kept.1.1.1.1.1.1.1.1.1.1.1.1.0
-    ∙ c.read_sort.kept.1.1.1.1.1.1.1.1.1.1.1.1.0
+    c.read_sort-2.auto.firsts
+    ∙ c.read_sort.auto.firsts
 
 pub shape_of-counts-in-Got-read_own : goal.shape_of-counts-in-Got-read_own
 shape_of-counts-in-Got-read_own c =
-    c.read_sort-2.kept.1.1.1.1.1.1.1.1.1.1.1.1.1.0
-    ∙ c.read_sort.kept.1.1.1.1.1.1.1.1.1.1.1.1.1.0
+    c.read_sort-2.auto.counts
+    ∙ c.read_sort.auto.counts
 
 pub shape_of-titles-in-Got-read_own : goal.shape_of-titles-in-Got-read_own
 shape_of-titles-in-Got-read_own c =
@@ -190,18 +175,11 @@ shape_of-lengths-in-Got-read_own c =
     c.read_own.auto.lengths ∙ c.read_sort-2.auto.lengths
     ∙ c.read_sort.auto.lengths
 
-pub returns-in-Got-read_own-clause-answer : goal.returns-in-Got-read_own-clause-answer
-returns-in-Got-read_own-clause-answer c =
+pub returns-in-Got-read_own : goal.returns-in-Got-read_own
+returns-in-Got-read_own c =
     let a = c.args in
-    let l = lent a.flags.now a.names.now a.types.now a.firsts.now a.counts.now a.titles.now a.bodies.now a.lengths.now in (all_good a.f (seen a.file.now a.f.major a.table.now a.f.slots) l _ (reckoned l _ c.least5-room.ensures) _ c.is_marked-in_interface.ensures c.requires _ _ (got reading_sorted
+    let l = lent a.flags.now a.names.now a.types.now a.firsts.now a.counts.now a.titles.now a.bodies.now a.lengths.now in
+    answer_tables (all_good a.f (seen a.file.now a.f.major a.table.now a.f.slots) l _ (reckoned l _ c.least5-room.ensures) _ c.is_marked-in_interface.ensures c.requires _ _ (got reading_sorted
     c.in-Got.is c.read_sort.ensures.answer) c.read_sort.ensures.tables _ _ (got reading_sorted
     c.in-Got-read_sort.is c.read_sort-2.ensures.answer) c.read_sort-2.ensures.tables _ _ _ (got reading2 c.in-Got-read_own.is c.read_own.ensures.answer)
-    c.mask.ensures c.read_own.ensures.tables).0
-
-pub returns-in-Got-read_own-clause-tables : goal.returns-in-Got-read_own-clause-tables
-returns-in-Got-read_own-clause-tables c =
-    let a = c.args in
-    let l = lent a.flags.now a.names.now a.types.now a.firsts.now a.counts.now a.titles.now a.bodies.now a.lengths.now in (all_good a.f (seen a.file.now a.f.major a.table.now a.f.slots) l _ (reckoned l _ c.least5-room.ensures) _ c.is_marked-in_interface.ensures c.requires _ _ (got reading_sorted
-    c.in-Got.is c.read_sort.ensures.answer) c.read_sort.ensures.tables _ _ (got reading_sorted
-    c.in-Got-read_sort.is c.read_sort-2.ensures.answer) c.read_sort-2.ensures.tables _ _ _ (got reading2 c.in-Got-read_own.is c.read_own.ensures.answer)
-    c.mask.ensures c.read_own.ensures.tables).1
+    c.mask.ensures c.read_own.ensures.tables)

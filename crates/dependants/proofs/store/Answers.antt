@@ -3,6 +3,7 @@ use native.Mathlib.Omega.{arith}
 use mathlib.Core.Path.{refl, sym, ◌∙◌}
 use Prim.Native.Nat.{◌-◌}
 use Rattle.dependants.proofs.Stored.{begin, hit, miss, done, no_more}
+use Rattle.reads.proofs.Clauses.{number_list}
 use Rattle.dependants.proofs.store.Goals as goal
 
 pub loop-n-init : goal.loop-n-init
@@ -23,8 +24,5 @@ loop-n-preserved c = (omega arith, miss _ _ _ _ _ _ c.loop-n.invariant.1 (sym c.
 pub shape_of-list : goal.shape_of-list
 shape_of-list c = c.loop-n.invariant.1.long
 
-pub returns-clause-number : goal.returns-clause-number
-returns-clause-number c = (done _ _ _ _ _ _ c.loop-n.invariant.1 (omega arith)).0
-
-pub returns-clause-list : goal.returns-clause-list
-returns-clause-list c = (done _ _ _ _ _ _ c.loop-n.invariant.1 (omega arith)).1
+pub returns : goal.returns
+returns c = number_list (done _ _ _ _ _ _ c.loop-n.invariant.1 (omega arith))

@@ -74,7 +74,7 @@ returns-in-20 c = simp c.in-20.is
 pub returns-in_default : goal.returns-in_default
 unfolding form_of
 returns-in_default c =
-    let r = c.in_default.rest in
+    let r = c.in_default.in_default-own.rest in
     simp (
       ne_eqb _ _ r.0.0.0.0.0.0.0.0.0.0.0.0.0.0.0.0.1,
       ne_eqb _ _ r.0.0.0.0.0.0.0.0.0.0.0.0.0.0.0.1,

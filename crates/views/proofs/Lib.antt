@@ -1,2 +1,0 @@
-mod Above
-mod Thin
