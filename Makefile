@@ -7,7 +7,7 @@ PREFIX ?= /usr/local
 comma := ,
 CFLAGS ?= -O2 -g
 CFLAGS_ALL := -std=c11 -Wall -Wextra -Wpedantic -Wconversion -Iinclude $(CFLAGS)
-RATTLE := $(shell find crates -name '*.rt' -o -name '*.antt') crates.txt
+RATTLE := $(shell find crates -name out -prune -o '(' -name '*.rt' -o -name '*.antt' ')' -print) crates.txt
 TOOL := $(wildcard tool/*.c)
 
 # The library is x86-64 on every machine. On another processor C is cross-compiled (CC), linked with LINK and run under an emulator
@@ -101,16 +101,16 @@ install: lib tool ## the library, header, tool and man page below PREFIX (defaul
 	$(if $(LINK),install -D -m 755 $(PROGRAM) $(DESTDIR)$(PREFIX)/lib/luohtemik/luohtemik.x86-64)
 	install -D -m 644 tool/luohtemik.1 $(DESTDIR)$(PREFIX)/share/man/man1/luohtemik.1
 
-clean: ## remove what was built
-	rm -rf target build
+clean: ## remove what was built and what checks kept
+	rm -rf build crates/*/out
 
 -include compare/compare.mk
 
 # ---- for whoever changes a rule: CONTRIBUTING.md
 .PHONY: edits times
-edits: ## every must-fail edit of CRATES (all, unless named), also those that the gate leaves out; in a copy. Unless CRATES are named also contracts that say less
+edits: ## every must-fail edit of CRATES (all, unless named), in a copy. Unless CRATES are named also contracts that say less
 	@tests/edits $(CRATES)
 	@test -n "$(CRATES)" || tests/tied
 
-times: ## the seconds that the last check took, crate by crate, and the edits
+times: ## the seconds of the last `make test`: when each crate was proved, the edits
 	@tests/times

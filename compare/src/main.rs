@@ -70,7 +70,7 @@ fn main() {
             let words: Vec<String> = options.iter().filter(|(k, _)| *k != "only").map(|(k, v)| format!("{k}={v}")).collect();
             planted::run("compare/planted.txt", options.get("only").map_or("", |s| s), &words)
         }
-        "planted-code" => planted::code("build/compare/code", options.get("only").map_or("", |s| s)),
+        "planted-code" => planted::code(options.get("code").map_or("", |s| s), options.get("only").map_or("", |s| s)),
         "one" => one(&options["file"]),
         other => panic!("compare, long, fixed, bench, worst, planted, departures or one; not '{other}'"),
     };
