@@ -7,10 +7,10 @@ use mathlib.Core.Path.{◌≡◌, refl, sym, ◌∙◌, ap, subst}
 use mathlib.Core.List.{List, [], ◌∷◌, ◌++◌}
 use mathlib.Core.Bool.{Bool, true, false, cond, not, ◌&&◌, ◌||◌}
 use lib.ListN.{length, take, drop, get_or, length-drop, take-append-drop}
-use lib.Seq.{take_all, take-add, take-take, drop-drop, length-take-le, get_or-take}
+use lib.Seq.{take_all, take-add, drop-drop, length-take-le, get_or-take}
 use lib.Dec.{leb, ltb, eqb}
 use borrow.Author.Tests.{eq-eqb, ne_eqb, eqb-true, lt-ltb, leb-true, not-true, not-false}
-use Rattle.text.specs.Text.{one_of, none_of, marks, unqualified, split, all_of, binary, follows, walked, whole as whole_of}
+use Rattle.text.specs.Text.{one_of, none_of, binary, follows, walked, whole as whole_of}
 use Rattle.text.proofs.Laws.{and_both, and_assoc}
 use Rattle.text.proofs.Names.{scan, binary_scan}
 use Rattle.ascii.specs.Ascii.{ascii, pairs, firsts, seconds, small, apart, stops, linked, linked1, packed, bytes, linked8}

@@ -4,9 +4,9 @@ use mathlib.Core.Path.{◌≡◌, refl}
 use mathlib.Core.List.{List, [], ◌∷◌}
 use mathlib.Core.Bool.{true, ◌&&◌}
 use lib.Dec.{leb}
-use Rattle.text.specs.Text.{begins, text_forms, is_text}
+use Rattle.text.specs.Text.{begins, is_text}
 use Rattle.text.proofs.Laws.{and_both}
-use Rattle.text.proofs.Texts.{Among, Points, Point, text_is}
+use Rattle.text.proofs.Texts.{Points, Point, text_is}
 use Rattle.text.proofs.Texts.Among.{here}
 use Rattle.text.proofs.Texts.Points.{none, more}
 use Rattle.ascii.specs.Ascii.{ascii}

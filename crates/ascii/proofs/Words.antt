@@ -1,18 +1,18 @@
 -- Eight bytes as one number: each operation on it goes byte by byte, so its tests are tests of the bytes. Assumes nothing.
-use Prim.Native.Nat.{ℕ, zero, suc, ◌+◌, ◌*◌, ◌/◌, ◌%◌, ◌<◌, ◌≤◌}
+use Prim.Native.Nat.{ℕ, zero, suc, ◌+◌, ◌*◌, ◌/◌, ◌%◌, ◌<◌}
 use native.Mathlib.Omega.{arith}
 use native.Mathlib.Nat.{mod-eq_of_lt}
 use mathlib.Core.Path.{◌≡◌, refl, sym, ◌∙◌, ap, subst}
-use mathlib.Core.List.{List, [], ◌∷◌, ◌++◌}
-use mathlib.Core.Bool.{Bool, true, false, cond, not, ◌&&◌, ◌||◌, true≢false}
+use mathlib.Core.List.{List, [], ◌∷◌}
+use mathlib.Core.Bool.{Bool, true, false, cond, not, ◌&&◌, ◌||◌}
 use lib.ListN.{length}
 use lib.Bits.{bit_and, bit_or, bit_xor, or_block, or_lt, or_add_and, and_block, xor_block, xor_lt, and_le_r, and_le_l, and_mask, and_high, xor_self, xor_add_and}
 use lib.Dec.{leb, ltb, eqb}
-use borrow.Author.Tests.{eq-eqb, ne_eqb, eqb-true, eqb-false, lt-ltb, le-ltb, ltb-true, ltb-false, le-leb, lt-leb}
+use borrow.Author.Tests.{eq-eqb, ne_eqb, eqb-true, eqb-false, lt-ltb, ltb-true, ltb-false, le-leb, lt-leb}
 use Rattle.text.specs.Text.{one_of, none_of, marks}
 use Rattle.text.proofs.Laws.{and_both}
 use Rattle.ascii.specs.Ascii.{ascii, every, packed, bytes, small, lacks, unmarked8, every8}
-use Rattle.ascii.specs.Ascii.{firsts, seconds, apart, stops, linked, slashes, linked8}
+use Rattle.ascii.specs.Ascii.{firsts, seconds, apart, stops, linked, linked8}
 
 -- a byte n times
 abbrev rep : ℕ → ℕ → ℕ

@@ -1,7 +1,7 @@
 -- The code's own notion: plain ASCII, and how eight bytes at once are seen to be that. Assumes nothing.
 use Rattle.std.specs.Prelude.{ℕ, ◌+◌, ◌*◌, List, [], ◌∷◌, Bool, true, cond, not, ◌&&◌, ◌||◌, leb, ltb, eqb}
 use Rattle.std.specs.Int.Bits.{bit_and, bit_or, bit_xor}
-use Rattle.text.specs.Text.{one_of, none_of, marks}
+use Rattle.text.specs.Text.{none_of, marks}
 
 -- each byte is one of 01 to 7F
 unfoldable pub ascii : List ℕ → Bool

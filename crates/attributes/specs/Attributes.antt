@@ -1,6 +1,6 @@
 -- Attribute framing: name, length, body inside the file, and the body of the class's own BootstrapMethods. Document 01, "Members and lookups". Assumes nothing.
 use Rattle.std.specs.Prelude.{ℕ, ◌+◌, Bool, cond, ltb}
-use Rattle.reads.specs.Answer.{Answer, Check, fine, accept, refuse, ◌>>=◌, require}
+use Rattle.reads.specs.Answer.{Answer, Check, fine, accept, ◌>>=◌, require}
 use Rattle.reads.specs.Bytes.{u2, u4, skipped}
 use Rattle.pool.specs.Pool.{Pool}
 use Rattle.slot.specs.Slots.{utf8_at}

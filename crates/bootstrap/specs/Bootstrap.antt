@@ -1,10 +1,10 @@
 -- The attribute BootstrapMethods: its name, and what its body holds. Document 01, "Members and lookups". Assumes nothing.
-use Rattle.std.specs.Prelude.{ℕ, zero, suc, ◌+◌, List, [], ◌∷◌, Bool, cond, eqb}
-use Rattle.reads.specs.Answer.{Answer, Check, fine, accept, refuse, ◌>>=◌, require}
+use Rattle.std.specs.Prelude.{ℕ, zero, suc, ◌+◌, [], ◌∷◌, Bool, cond, eqb}
+use Rattle.reads.specs.Answer.{Answer, Check, fine, accept, ◌>>=◌, require}
 use Rattle.reads.specs.Bytes.{num2, inside}
 use Rattle.text.specs.Text.{is_bootstrap_methods}
 use Rattle.pool.specs.Kinds as kind
-use Rattle.pool.specs.Pool.{Pool, slots}
+use Rattle.pool.specs.Pool.{Pool}
 use Rattle.slot.specs.Slots.{bytes_of, in_range, of_kind}
 
 -- an attribute whose name is in slot m

@@ -1,6 +1,6 @@
 -- Every Dynamic and InvokeDynamic entry names a method of the one BootstrapMethods. Document 01, "Members and lookups". Assumes nothing.
 use Rattle.std.specs.Prelude.{ℕ, ◌+◌, min, List, [], ◌∷◌, Bool, true, not, ◌&&◌, ◌||◌, cond, ltb, eqb}
-use Rattle.reads.specs.Answer.{Answer, Check, fine, accept, refuse, ◌>>=◌, require, each}
+use Rattle.reads.specs.Answer.{Check, fine, ◌>>=◌, require, each}
 use Rattle.reads.specs.Bytes.{num2}
 use Rattle.pool.specs.Kinds as kind
 use Rattle.pool.specs.Pool.{Pool, slots}

@@ -1,6 +1,6 @@
 -- The code's own notion: a handed table held against the entries, which are read afresh with room for so many cells. Assumes nothing.
 use Rattle.std.specs.Prelude.{ℕ, List}
-use Rattle.reads.specs.Answer.{Answer, Check, accept, refuse, ◌>>=◌}
+use Rattle.reads.specs.Answer.{Answer, Check, accept, ◌>>=◌}
 use Rattle.pool.specs.Pool.{Whole, read_pool}
 use Rattle.handed.specs.Handed.{agree}
 

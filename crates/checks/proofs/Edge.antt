@@ -1,14 +1,14 @@
 -- From what `read_entries` and `check_pool` answer and leave to what `pool` does. Assumes nothing.
 use mathlib.Core.Path.{◌≡◌, refl, ap, sym, ◌∙◌}
-use mathlib.Core.List.{List, []}
+use mathlib.Core.List.{List}
 use Prim.Native.Nat.{ℕ}
 use lib.ListN.{length, take, replicate}
 use lib.Seq.{take_at}
-use Rattle.reads.specs.Answer.{Answer, Check, fine, accept, refuse, ◌>>=◌, mapped}
+use Rattle.reads.specs.Answer.{Answer, fine, accept, refuse, ◌>>=◌, mapped}
 use Rattle.reads.specs.Tables.{padded, after}
 use Rattle.reads.proofs.Answers.{never}
 use Rattle.pool.specs.declared.Head.{Head}
-use Rattle.pool.specs.Pool.{Pool, Whole, read_pool, seen}
+use Rattle.pool.specs.Pool.{Whole, read_pool, seen}
 use Rattle.pool.specs.Readings.{head_of}
 use Rattle.pool.proofs.Slots.{its_file as file_read}
 use Rattle.checks.specs.Checks.{checked, pool}

@@ -1,13 +1,13 @@
 -- What an entry that keeps its rule refers to: an entry of lower rank. So its references are slots, and none is its own. Assumes nothing.
-use Prim.Native.Nat.{ℕ, zero, suc, ◌+◌, ◌≤◌, ◌<◌}
+use Prim.Native.Nat.{ℕ, zero, suc, ◌+◌, ◌<◌}
 use native.Mathlib.Omega.{arith}
-use mathlib.Core.Path.{◌≡◌, refl, sym}
+use mathlib.Core.Path.{◌≡◌, refl}
 use mathlib.Core.List.{List, [], ◌∷◌}
 use mathlib.Core.Bool.{Bool, true, false, cond}
 use lib.ListN.{get_or-eq_default}
 use lib.Dec.{ltb, eqb}
 use borrow.Author.Tests.{eqb-true, eqb-false, ltb-true, ltb-false, lt-ltb, ne_eqb}
-use Rattle.reads.specs.Answer.{Check, fine, accept, each}
+use Rattle.reads.specs.Answer.{Check, fine, each}
 use Rattle.reads.specs.Bytes.{num1}
 use Rattle.reads.proofs.Answers.{first, required}
 use Rattle.pool.specs.declared.Row.{Row}

@@ -1,12 +1,12 @@
 -- With 65,536 cells a pool is never refused for want of one; and what an accepted pool is. Assumes nothing.
-use mathlib.Core.Path.{◌≡◌, refl, ap, sym, ◌∙◌}
+use mathlib.Core.Path.{◌≡◌, ap, ◌∙◌}
 use mathlib.Core.Bool.{Bool, not, ◌||◌}
 use mathlib.Core.List.{List, [], ◌∷◌}
-use Prim.Native.Nat.{ℕ, ◌-◌, ◌≤◌, ◌<◌}
+use Prim.Native.Nat.{ℕ, ◌-◌, ◌≤◌}
 use native.Mathlib.Omega.{arith}
 use lib.ListN.{get_or}
 use lib.Dec.{ltb, eqb}
-use Rattle.reads.specs.Answer.{Answer, Check, accept, refuse, ◌>>=◌, require, each}
+use Rattle.reads.specs.Answer.{accept, refuse, require, each}
 use Rattle.reads.specs.Bytes.{num2}
 use Rattle.reads.proofs.Answers.{first}
 use Rattle.text.specs.Text.{is_text, binary}

@@ -1,13 +1,12 @@
 -- The whole file: what stands before the members, and these. Assumes nothing.
 use mathlib.Core.Path.{◌≡◌, ap, sym, subst, ◌∙◌}
 use mathlib.Core.List.{List, []}
-use Prim.Native.Nat.{ℕ, ◌+◌, ◌≤◌}
+use Prim.Native.Nat.{ℕ, ◌≤◌}
 use native.Mathlib.Omega.{arith}
 use lib.ListN.{length, replicate, length-replicate}
 use Rattle.reads.specs.Answer.{Answer, accept, refuse, mapped}
 use Rattle.reads.specs.Tables.{padded, after}
-use Rattle.reads.proofs.Answers.{first, whole_only, refused_of}
-use Rattle.reads.proofs.Answers as answers
+use Rattle.reads.proofs.Answers.{whole_only, refused_of}
 use Rattle.reads.proofs.Tables.{padded_none}
 use Rattle.pool.specs.Pool.{Pool, seen}
 use Rattle.checks.specs.Checks.{pool}

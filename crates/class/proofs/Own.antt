@@ -1,17 +1,17 @@
 -- The class's own attributes, up to the end of the file. Assumes nothing.
-use mathlib.Core.Path.{◌≡◌, refl, ap, sym, ◌∙◌}
+use mathlib.Core.Path.{◌≡◌, ap, sym, ◌∙◌}
 use mathlib.Core.Bool.{true}
-use mathlib.Core.List.{List, [], ◌∷◌, map}
+use mathlib.Core.List.{List, map}
 use Prim.Native.Nat.{ℕ, ◌+◌, ◌≤◌}
 use native.Mathlib.Omega.{arith}
 use lib.ListN.{length, take, drop}
-use Rattle.reads.specs.Answer.{Answer, Check, fine, accept, refuse, ◌>>=◌, mapped}
+use Rattle.reads.specs.Answer.{Answer, fine, accept, refuse, mapped}
 use Rattle.reads.specs.Bytes.{u2}
 use Rattle.reads.proofs.Answers.{first, never, whole_only, refused_of}
 use Rattle.reads.proofs.Answers as answers
 use Rattle.pool.specs.Pool.{Pool}
 use Rattle.attributes.specs.declared.Attribute.{Attribute}
-use Rattle.reads.specs.Records.{Many, records, placed, column}
+use Rattle.reads.specs.Records.{Many, placed, column}
 use Rattle.attributes.specs.Attributes.{record_at, body_end, framed}
 use Rattle.reads.proofs.Columns.{placed_part, made, roomy}
 use Rattle.attributes.proofs.Frames.{record_in}

@@ -7,13 +7,13 @@ use native.Mathlib.Nat.{sub_self, min-le_left, min-le_right}
 use mathlib.Core.Bool.{false}
 use lib.ListN.{length, set, replicate, take, drop, length-drop}
 use lib.Seq.{drop-set-add, take-suc-set}
-use Rattle.reads.specs.Answer.{Answer, accept, refuse, ◌>>=◌, mapped}
+use Rattle.reads.specs.Answer.{Answer, accept, refuse, mapped}
 use Rattle.reads.specs.Bytes.{u2}
 use Rattle.reads.proofs.Answers.{first, never, whole_only, refused_of}
 use Rattle.reads.proofs.Answers as answers
 use Rattle.pool.specs.Pool.{Pool}
 use Rattle.attributes.specs.declared.Attribute.{Attribute}
-use Rattle.reads.specs.Records.{Many, records, placed}
+use Rattle.reads.specs.Records.{Many, placed}
 use Rattle.attributes.specs.Attributes.{record_at, body_end, framed}
 use Rattle.reads.proofs.Columns.{ahead, step, stop, done, placed_length, made, roomy}
 use Rattle.attributes.proofs.Frames.{record_in}
@@ -25,7 +25,7 @@ use Rattle.member.proofs.Inside.{member_in}
 use Rattle.reads.proofs.Placed.{placed_append}
 use Rattle.class.specs.declared.Sorted.{Sorted}
 use Rattle.class.specs.Members.{Whole, Reached, whole_at, reach, begun_at, members_of, sort_at}
-use Rattle.class.specs.Columns.{Number, Flags, Names, Types, Firsts, Counts, Part, Titles, Bodies, Lengths, number, part, Columns, five, three, lent, member_room, room_of, attribute_room, gathered, of_each, each_column, zeros}
+use Rattle.class.specs.Columns.{Number, Flags, Names, Types, Firsts, Counts, Part, Titles, Bodies, Lengths, number, part, Columns, three, lent, member_room, room_of, attribute_room, gathered, of_each, each_column, zeros}
 use Rattle.class.specs.Steps.{Accepted, Ready, after_one, after_many, after_records, between, reached_at}
 use Rattle.class.specs.Readings.{sorted_of}
 

@@ -2,10 +2,10 @@
 use mathlib.Core.Path.{◌≡◌, refl, ap, sym, subst, ◌∙◌}
 use mathlib.Core.Bool.{Bool}
 use mathlib.Core.List.{List, [], ◌∷◌, ◌++◌, map, append_assoc}
-use Prim.Native.Nat.{ℕ, zero, suc, ◌+◌, ◌≤◌, ◌<◌}
+use Prim.Native.Nat.{ℕ, zero, suc, ◌+◌, ◌≤◌}
 use native.Mathlib.Omega.{arith}
 use lib.ListN.{length, length-append}
-use Rattle.reads.specs.Answer.{Answer, accept, refuse, ◌>>=◌, mapped}
+use Rattle.reads.specs.Answer.{Answer, accept, refuse, mapped}
 use Rattle.reads.specs.Bytes.{u2}
 use Rattle.reads.proofs.Answers.{first, never, whole_only, refused_of}
 use Rattle.reads.proofs.Answers as answers

@@ -1,7 +1,7 @@
 -- The whole file. Document 01, "File and lent tables" and "Members and lookups". Assumes nothing.
 use Rattle.std.specs.Prelude.{ℕ, ◌+◌, List, Bool, true, not, length, eqb}
 use Rattle.std.specs.Int.Bits.{bit_and}
-use Rattle.reads.specs.Answer.{Answer, Check, fine, accept, refuse, ◌>>=◌, require}
+use Rattle.reads.specs.Answer.{Answer, Check, accept, ◌>>=◌, require}
 use Rattle.reads.specs.Bytes.{u2}
 use Rattle.pool.specs.Pool.{Pool, Whole as WholePool}
 use Rattle.checks.specs.Checks.{pool}

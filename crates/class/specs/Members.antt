@@ -1,6 +1,6 @@
 -- The members of one sort, fields or methods, in order, with their attributes. Document 01, "Members and lookups". Assumes nothing.
 use Rattle.std.specs.Prelude.{ℕ, ◌+◌, List, [], ◌∷◌, ◌++◌, Bool, true, false}
-use Rattle.reads.specs.Answer.{Answer, accept, refuse, ◌>>=◌}
+use Rattle.reads.specs.Answer.{Answer, accept, ◌>>=◌}
 use Rattle.reads.specs.Bytes.{u2}
 use Rattle.pool.specs.Pool.{Pool}
 use Rattle.reads.specs.Records.{Many, records}

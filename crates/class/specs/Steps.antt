@@ -6,7 +6,7 @@ use Rattle.attributes.specs.declared.Attribute.{Attribute}
 use Rattle.class.specs.Members.{Whole, Reached}
 use Rattle.reads.specs.Tables.{padded}
 use Rattle.class.specs.Class.{Front, Tables}
-use Rattle.class.specs.Columns.{Columns, Number, Names, Types, Part, part, member_room, gathered, of_each, each_column, member_cells, attribute_cells}
+use Rattle.class.specs.Columns.{Columns, Names, Types, Part, part, member_room, gathered, of_each, each_column, member_cells, attribute_cells}
 
 -- where an answer was accepted the columns are as `f` says; nothing is said of them after a refusal
 abbrev pub Accepted : {X C : Type 0} → Answer X → (X → C) → C → Type 0

@@ -1,6 +1,6 @@
 -- The class header and the interfaces. Document 01, "Members and lookups". Assumes nothing.
-use Rattle.std.specs.Prelude.{ℕ, ◌+◌, List, [], ◌∷◌, cond, length, ltb, eqb}
-use Rattle.reads.specs.Answer.{Answer, Check, fine, accept, refuse, ◌>>=◌, require}
+use Rattle.std.specs.Prelude.{ℕ, ◌+◌, [], ◌∷◌, cond, ltb, eqb}
+use Rattle.reads.specs.Answer.{Answer, Check, fine, accept, ◌>>=◌, require}
 use Rattle.reads.specs.Bytes.{u2}
 use Rattle.text.specs.Text.{binary}
 use Rattle.pool.specs.Kinds as kind

@@ -1,7 +1,7 @@
 -- Which numbers the file after the pool can be refused with. Assumes nothing.
 use mathlib.Core.Path.{◌≡◌, refl}
 use mathlib.Core.Bool.{Bool, true, false, not}
-use mathlib.Core.List.{List, ◌++◌, ◌∷◌}
+use mathlib.Core.List.{List, ◌++◌}
 use Prim.Native.Nat.{ℕ, ◌+◌}
 use lib.ListN.{length}
 use lib.Dec.{leb, ltb, eqb}

@@ -9,7 +9,7 @@ use mathlib.Core.Logic.{◌⊎◌, inl, inr}
 use lib.ListN.{length, length-append}
 use lib.Dec.{leb, ltb, eqb}
 use borrow.Author.Tests.{ltb-true, ltb-false}
-use Rattle.reads.specs.Answer.{Answer, accept, refuse, ◌>>=◌, require}
+use Rattle.reads.specs.Answer.{Answer, accept, ◌>>=◌, require}
 use Rattle.reads.specs.Bytes.{u1, u2, u4, skipped}
 use Rattle.reads.proofs.Answers.{first, held, required}
 use Rattle.reads.proofs.Leaves.{u1_in, skipped_in, u2_in, u4_in}
@@ -17,7 +17,7 @@ use Rattle.pool.specs.declared.Header.{Header}
 use Rattle.pool.specs.declared.Slot.{Slot}
 use Rattle.pool.specs.Kinds as kind
 use Rattle.pool.specs.Rows.{since, first as width, second, row_of}
-use Rattle.pool.specs.Pool.{Pool, Whole, Read, room_for, second_width, entry_at, slot_at, entries, all_entries, header_of, read_pool, slots}
+use Rattle.pool.specs.Pool.{Whole, Read, room_for, second_width, entry_at, slot_at, entries, all_entries, header_of, read_pool, slots}
 use Rattle.pool.proofs.Entries.{same, slot_in}
 use Rattle.checks.specs.Checks.{checked, pool}
 use Rattle.reach.specs.Reach.{◌∈◌}

@@ -1,13 +1,13 @@
 -- Demand 1 for the calls for C and what they are made of, from their contracts: a line for each. Assumes nothing.
 use Prim.Native.Nat.{ℕ, ◌/◌, ◌≤◌}
-use mathlib.Core.Path.{◌≡◌, refl}
+use mathlib.Core.Path.{refl}
 use mathlib.Core.List.{List, ◌∷◌}
 use lib.ListN.{length, replicate}
 use denote.Ref.{Bor, MutBor}
-use Rattle.reads.specs.Answer.{Answer, refuse, mapped}
+use Rattle.reads.specs.Answer.{Answer, mapped}
 use Rattle.reads.specs.Promise.{reading_check}
 use Rattle.reads.specs.Tables.{after}
-use Rattle.pool.specs.Pool.{Pool, Whole, read_pool}
+use Rattle.pool.specs.Pool.{Whole, read_pool}
 use Rattle.pool.specs.Readings.{head_of}
 use Rattle.pool.proofs.Room.{Bytes}
 use Rattle.checks.specs.Checks.{pool}

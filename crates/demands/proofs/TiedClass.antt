@@ -35,12 +35,12 @@ use Rattle.records.specs.Records.{Numbers, member_of, members_from, none, Parts,
 use Rattle.records.proofs.Zeros.{refused as none_recorded}
 use Rattle.records.proofs.member_of.Reads as member_of_reads
 use Rattle.records.proofs.attribute_of.Reads as attribute_of_reads
-use Rattle.records.specs.contracts.member_records as member-records
-use Rattle.records.specs.contracts.record_at as member-record-at
-use Rattle.records.specs.contracts.attribute_records as attribute-records
-use Rattle.records.specs.contracts.attribute_at as attribute-at
+use Rattle.records.specs.contracts.member_records as member_records_contract
+use Rattle.records.specs.contracts.record_at as member_record_at_contract
+use Rattle.records.specs.contracts.attribute_records as attribute_records_contract
+use Rattle.records.specs.contracts.attribute_at as attribute_at_contract
 use Rattle.class_records.specs.ClassRecords.{rooms_with, class_with}
-use Rattle.class_records.specs.contracts.read_class_records as read-class-records
+use Rattle.class_records.specs.contracts.read_class_records as read_class_records_contract
 use Rattle.demands.specs.Calls.{Among, Equals, Answers, Writes, Fills}
 use Rattle.demands.specs.Clauses.{Claims}
 use Rattle.demands.specs.Lent.{Lent, LentRecords, file_into, no_file, records_into, no_records}
@@ -139,7 +139,7 @@ module _ (flags names types firsts counts : Slice) where
   pub records-member_of : (κs : _) (i : ℕ) → Equals (member_of_reads.Learnt κs (flags, (names, (types, (firsts, (counts, (i, tt))))))) (member_of numbers i)
   records-member_of κs i = gives (λ z e h. h)
 
-  pub records-member_records : (κs : _) (records : MutBor (List Member)) → Claims member-records.ended (λ M 𝓤 𝓛. member-records.clauses 𝓛) κs (flags, (names, (types, (firsts, (counts, (records, tt))))))
+  pub records-member_records : (κs : _) (records : MutBor (List Member)) → Claims member_records_contract.ended (λ M 𝓤 𝓛. member_records_contract.clauses 𝓛) κs (flags, (names, (types, (firsts, (counts, (records, tt))))))
       (λ z e. (e.1.1.1.1.1.0.now ≡ members_from numbers 0 (length records.now)) ∷ [])
   records-member_records κs records = record { text = λ w g z e. refl }
 
@@ -150,14 +150,14 @@ module _ (titles bodies lengths : Slice) where
   pub records-attribute_of : (κs : _) (i : ℕ) → Equals (attribute_of_reads.Learnt κs (titles, (bodies, (lengths, (i, tt))))) (attribute_of parts i)
   records-attribute_of κs i = gives (λ z e h. h)
 
-  pub records-attribute_records : (κs : _) (records : MutBor (List Attribute)) → Claims attribute-records.ended (λ M 𝓤 𝓛. attribute-records.clauses 𝓛) κs (titles, (bodies, (lengths, (records, tt))))
+  pub records-attribute_records : (κs : _) (records : MutBor (List Attribute)) → Claims attribute_records_contract.ended (λ M 𝓤 𝓛. attribute_records_contract.clauses 𝓛) κs (titles, (bodies, (lengths, (records, tt))))
       (λ z e. (e.1.1.1.0.now ≡ attributes_from parts 0 (length records.now)) ∷ [])
   records-attribute_records κs records = record { text = λ w g z e. refl }
 
-pub records-record_at : (κs : _) (records : Bor (List Member)) (i : ℕ) → Claims member-record-at.ended (λ M 𝓤 𝓛. member-record-at.clauses 𝓛) κs (records, (i, tt)) (λ z e. (z ≡ get_or records.now i none) ∷ [])
+pub records-record_at : (κs : _) (records : Bor (List Member)) (i : ℕ) → Claims member_record_at_contract.ended (λ M 𝓤 𝓛. member_record_at_contract.clauses 𝓛) κs (records, (i, tt)) (λ z e. (z ≡ get_or records.now i none) ∷ [])
 records-record_at κs records i = record { text = λ w g z e. refl }
 
-pub records-attribute_at : (κs : _) (records : Bor (List Attribute)) (i : ℕ) → Claims attribute-at.ended (λ M 𝓤 𝓛. attribute-at.clauses 𝓛) κs (records, (i, tt)) (λ z e. (z ≡ get_or records.now i no_attribute) ∷ [])
+pub records-attribute_at : (κs : _) (records : Bor (List Attribute)) (i : ℕ) → Claims attribute_at_contract.ended (λ M 𝓤 𝓛. attribute_at_contract.clauses 𝓛) κs (records, (i, tt)) (λ z e. (z ≡ get_or records.now i no_attribute) ∷ [])
 records-attribute_at κs records i = record { text = λ w g z e. refl }
 
 -- ---- a whole file with its records, in the least of the rooms: every table zero after a refusal, those of records too
@@ -186,7 +186,7 @@ module _ (a : WithRecords) where
       ∷ (((lent_in e).cells ≡ t.lent.cells) × (((lent_in e).interfaces ≡ t.lent.interfaces) × ((lent_in e).columns ≡ t.lent.columns)))
       ∷ (((all_in e).records ≡ t.records) × ((all_in e).attributes ≡ t.attributes)) ∷ []
 
-  pub class_records-read_class_records : (κs : _) → Claims read-class-records.ended (λ M 𝓤 𝓛. read-class-records.clauses 𝓛) κs a claimed
+  pub class_records-read_class_records : (κs : _) → Claims read_class_records_contract.ended (λ M 𝓤 𝓛. read_class_records_contract.clauses 𝓛) κs a claimed
   class_records-read_class_records κs = record { text = λ w g z e. refl }
 
   pub class_records-kept : Writes (λ z e. AllOf (claimed z e)) reading_class (mapped class_of y) all_in (records_into (room a) (len a) (c a) n k y) (no_records (room a) (len a) (c a) n k) (OfFile (s a) (room a))

@@ -1,6 +1,6 @@
 -- Demand 1 for the calls on native cells, for all slots at once, and for what both kinds of calls for C share, from their contracts: a line for each. Assumes nothing.
 use Prim.Native.Nat.{ℕ, ◌/◌, ◌≤◌}
-use mathlib.Core.Path.{◌≡◌, refl}
+use mathlib.Core.Path.{refl}
 use mathlib.Core.List.{List, ◌∷◌}
 use lib.ListN.{length, replicate}
 use lib.Dec.{leb}
@@ -61,7 +61,7 @@ use Rattle.loader.proofs.luo_invoke_dynamic32.Reads as luo_invoke_dynamic32_read
 use Rattle.loader.proofs.luo_literal32.Reads as luo_literal32_reads
 use Rattle.loader.proofs.luo_text32.Reads as luo_text32_reads
 use Rattle.loader.proofs.luo_utf8_part32.Reads as luo_utf8_part32_reads
-use Rattle.demands.specs.Calls.{Among, Equals, Gives, Only, Writes, FillsBytes, Tells, TellsOnly, TellsCells}
+use Rattle.demands.specs.Calls.{Among, Equals, Only, Writes, FillsBytes, Tells, TellsOnly, TellsCells}
 use Rattle.demands.specs.Tellings.{in_pool, in_list, in_slot, in_named, in_member, in_handle, in_dynamic, in_literal, in_text, in_part}
 use Rattle.demands.specs.Numbers.{of_pool, of_handed, of_dependants}
 use Rattle.demands.specs.Places.{OfPool, OfLookup}

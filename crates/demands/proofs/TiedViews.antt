@@ -28,21 +28,21 @@ use Rattle.values.proofs.utf8_span.Reads as utf8_span_reads
 use Rattle.values.proofs.utf8_part.Reads as utf8_part_reads
 use Rattle.dependants.proofs.dependants.Reads as dependants_reads
 use Rattle.views.specs.declared.PoolView.{PoolView}
-use Rattle.views.specs.contracts.literal as over-literal
-use Rattle.views.specs.contracts.text_or_raw as over-text-or-raw
-use Rattle.views.specs.contracts.class_name as over-class-name
-use Rattle.views.specs.contracts.module_name as over-module-name
-use Rattle.views.specs.contracts.package_name as over-package-name
-use Rattle.views.specs.contracts.method_type as over-method-type
-use Rattle.views.specs.contracts.name_and_type as over-name-and-type
-use Rattle.views.specs.contracts.member_reference as over-member-reference
-use Rattle.views.specs.contracts.method_handle as over-method-handle
-use Rattle.views.specs.contracts.dynamic_constant as over-dynamic-constant
-use Rattle.views.specs.contracts.invoke_dynamic as over-invoke-dynamic
+use Rattle.views.specs.contracts.literal as over_literal
+use Rattle.views.specs.contracts.text_or_raw as over_text_or_raw
+use Rattle.views.specs.contracts.class_name as over_class_name
+use Rattle.views.specs.contracts.module_name as over_module_name
+use Rattle.views.specs.contracts.package_name as over_package_name
+use Rattle.views.specs.contracts.method_type as over_method_type
+use Rattle.views.specs.contracts.name_and_type as over_name_and_type
+use Rattle.views.specs.contracts.member_reference as over_member_reference
+use Rattle.views.specs.contracts.method_handle as over_method_handle
+use Rattle.views.specs.contracts.dynamic_constant as over_dynamic_constant
+use Rattle.views.specs.contracts.invoke_dynamic as over_invoke_dynamic
 use Rattle.views.specs.contracts.utf8_span as over-utf8-span
 use Rattle.views.specs.contracts.utf8_part as over-utf8-part
-use Rattle.views.specs.contracts.dependants as over-dependants
-use Rattle.views.specs.contracts.view as make-view
+use Rattle.views.specs.contracts.dependants as over_dependants
+use Rattle.views.specs.contracts.view as make_view
 use Rattle.demands.specs.Calls.{Equals}
 use Rattle.demands.specs.Clauses.{Claims}
 use Rattle.demands.proofs.Kept.{gives}
@@ -53,7 +53,7 @@ abbrev held : Bor (List ℕ) → Bor (List ℕ) → PoolView → Type 0
 held file table z = (z.file ≡ file) × (z.table ≡ table)
 
 module _ (file table : Bor (List ℕ)) where
-  pub views-view : (κs : _) → Claims make-view.ended (λ M 𝓤 𝓛. make-view.clauses 𝓛) κs (file, (table, tt)) (λ z e. held file table z ∷ [])
+  pub views-view : (κs : _) → Claims make_view.ended (λ M 𝓤 𝓛. make_view.clauses 𝓛) κs (file, (table, tt)) (λ z e. held file table z ∷ [])
   views-view κs = record { text = λ w g z e. refl }
 
   pub views-view_once : Equals {E = Unit {0}} (λ z _. held file table z) (record { file = file; table = table })
@@ -62,37 +62,37 @@ module _ (file table : Bor (List ℕ)) where
 -- ---- a lookup over it
 
 module _ (v : PoolView) (n : ℕ) where
-  pub views-literal : (κs : _) → Claims over-literal.ended (λ M 𝓤 𝓛. over-literal.clauses 𝓛) κs (v, (n, tt)) (λ z e. literal_reads.Learnt κs (v.file, (v.table, (n, tt))) z (v.file, (v.table, (n, tt))) ∷ [])
+  pub views-literal : (κs : _) → Claims over_literal.ended (λ M 𝓤 𝓛. over_literal.clauses 𝓛) κs (v, (n, tt)) (λ z e. literal_reads.Learnt κs (v.file, (v.table, (n, tt))) z (v.file, (v.table, (n, tt))) ∷ [])
   views-literal κs = record { text = λ w g z e. refl }
 
-  pub views-text_or_raw : (κs : _) → Claims over-text-or-raw.ended (λ M 𝓤 𝓛. over-text-or-raw.clauses 𝓛) κs (v, (n, tt)) (λ z e. text_or_raw_reads.Learnt κs (v.file, (v.table, (n, tt))) z (v.file, (v.table, (n, tt))) ∷ [])
+  pub views-text_or_raw : (κs : _) → Claims over_text_or_raw.ended (λ M 𝓤 𝓛. over_text_or_raw.clauses 𝓛) κs (v, (n, tt)) (λ z e. text_or_raw_reads.Learnt κs (v.file, (v.table, (n, tt))) z (v.file, (v.table, (n, tt))) ∷ [])
   views-text_or_raw κs = record { text = λ w g z e. refl }
 
-  pub views-class_name : (κs : _) → Claims over-class-name.ended (λ M 𝓤 𝓛. over-class-name.clauses 𝓛) κs (v, (n, tt)) (λ z e. class_name_reads.Learnt κs (v.file, (v.table, (n, tt))) z (v.file, (v.table, (n, tt))) ∷ [])
+  pub views-class_name : (κs : _) → Claims over_class_name.ended (λ M 𝓤 𝓛. over_class_name.clauses 𝓛) κs (v, (n, tt)) (λ z e. class_name_reads.Learnt κs (v.file, (v.table, (n, tt))) z (v.file, (v.table, (n, tt))) ∷ [])
   views-class_name κs = record { text = λ w g z e. refl }
 
-  pub views-module_name : (κs : _) → Claims over-module-name.ended (λ M 𝓤 𝓛. over-module-name.clauses 𝓛) κs (v, (n, tt)) (λ z e. module_name_reads.Learnt κs (v.file, (v.table, (n, tt))) z (v.file, (v.table, (n, tt))) ∷ [])
+  pub views-module_name : (κs : _) → Claims over_module_name.ended (λ M 𝓤 𝓛. over_module_name.clauses 𝓛) κs (v, (n, tt)) (λ z e. module_name_reads.Learnt κs (v.file, (v.table, (n, tt))) z (v.file, (v.table, (n, tt))) ∷ [])
   views-module_name κs = record { text = λ w g z e. refl }
 
-  pub views-package_name : (κs : _) → Claims over-package-name.ended (λ M 𝓤 𝓛. over-package-name.clauses 𝓛) κs (v, (n, tt)) (λ z e. package_name_reads.Learnt κs (v.file, (v.table, (n, tt))) z (v.file, (v.table, (n, tt))) ∷ [])
+  pub views-package_name : (κs : _) → Claims over_package_name.ended (λ M 𝓤 𝓛. over_package_name.clauses 𝓛) κs (v, (n, tt)) (λ z e. package_name_reads.Learnt κs (v.file, (v.table, (n, tt))) z (v.file, (v.table, (n, tt))) ∷ [])
   views-package_name κs = record { text = λ w g z e. refl }
 
-  pub views-method_type : (κs : _) → Claims over-method-type.ended (λ M 𝓤 𝓛. over-method-type.clauses 𝓛) κs (v, (n, tt)) (λ z e. method_type_reads.Learnt κs (v.file, (v.table, (n, tt))) z (v.file, (v.table, (n, tt))) ∷ [])
+  pub views-method_type : (κs : _) → Claims over_method_type.ended (λ M 𝓤 𝓛. over_method_type.clauses 𝓛) κs (v, (n, tt)) (λ z e. method_type_reads.Learnt κs (v.file, (v.table, (n, tt))) z (v.file, (v.table, (n, tt))) ∷ [])
   views-method_type κs = record { text = λ w g z e. refl }
 
-  pub views-name_and_type : (κs : _) → Claims over-name-and-type.ended (λ M 𝓤 𝓛. over-name-and-type.clauses 𝓛) κs (v, (n, tt)) (λ z e. name_and_type_reads.Learnt κs (v.file, (v.table, (n, tt))) z (v.file, (v.table, (n, tt))) ∷ [])
+  pub views-name_and_type : (κs : _) → Claims over_name_and_type.ended (λ M 𝓤 𝓛. over_name_and_type.clauses 𝓛) κs (v, (n, tt)) (λ z e. name_and_type_reads.Learnt κs (v.file, (v.table, (n, tt))) z (v.file, (v.table, (n, tt))) ∷ [])
   views-name_and_type κs = record { text = λ w g z e. refl }
 
-  pub views-member_reference : (κs : _) → Claims over-member-reference.ended (λ M 𝓤 𝓛. over-member-reference.clauses 𝓛) κs (v, (n, tt)) (λ z e. member_reference_reads.Learnt κs (v.file, (v.table, (n, tt))) z (v.file, (v.table, (n, tt))) ∷ [])
+  pub views-member_reference : (κs : _) → Claims over_member_reference.ended (λ M 𝓤 𝓛. over_member_reference.clauses 𝓛) κs (v, (n, tt)) (λ z e. member_reference_reads.Learnt κs (v.file, (v.table, (n, tt))) z (v.file, (v.table, (n, tt))) ∷ [])
   views-member_reference κs = record { text = λ w g z e. refl }
 
-  pub views-method_handle : (κs : _) → Claims over-method-handle.ended (λ M 𝓤 𝓛. over-method-handle.clauses 𝓛) κs (v, (n, tt)) (λ z e. method_handle_reads.Learnt κs (v.file, (v.table, (n, tt))) z (v.file, (v.table, (n, tt))) ∷ [])
+  pub views-method_handle : (κs : _) → Claims over_method_handle.ended (λ M 𝓤 𝓛. over_method_handle.clauses 𝓛) κs (v, (n, tt)) (λ z e. method_handle_reads.Learnt κs (v.file, (v.table, (n, tt))) z (v.file, (v.table, (n, tt))) ∷ [])
   views-method_handle κs = record { text = λ w g z e. refl }
 
-  pub views-dynamic_constant : (κs : _) → Claims over-dynamic-constant.ended (λ M 𝓤 𝓛. over-dynamic-constant.clauses 𝓛) κs (v, (n, tt)) (λ z e. dynamic_constant_reads.Learnt κs (v.file, (v.table, (n, tt))) z (v.file, (v.table, (n, tt))) ∷ [])
+  pub views-dynamic_constant : (κs : _) → Claims over_dynamic_constant.ended (λ M 𝓤 𝓛. over_dynamic_constant.clauses 𝓛) κs (v, (n, tt)) (λ z e. dynamic_constant_reads.Learnt κs (v.file, (v.table, (n, tt))) z (v.file, (v.table, (n, tt))) ∷ [])
   views-dynamic_constant κs = record { text = λ w g z e. refl }
 
-  pub views-invoke_dynamic : (κs : _) → Claims over-invoke-dynamic.ended (λ M 𝓤 𝓛. over-invoke-dynamic.clauses 𝓛) κs (v, (n, tt)) (λ z e. invoke_dynamic_reads.Learnt κs (v.file, (v.table, (n, tt))) z (v.file, (v.table, (n, tt))) ∷ [])
+  pub views-invoke_dynamic : (κs : _) → Claims over_invoke_dynamic.ended (λ M 𝓤 𝓛. over_invoke_dynamic.clauses 𝓛) κs (v, (n, tt)) (λ z e. invoke_dynamic_reads.Learnt κs (v.file, (v.table, (n, tt))) z (v.file, (v.table, (n, tt))) ∷ [])
   views-invoke_dynamic κs = record { text = λ w g z e. refl }
 
   pub views-utf8_span : (κs : _) → Claims over-utf8-span.ended (λ M 𝓤 𝓛. over-utf8-span.clauses 𝓛) κs (v, (n, tt)) (λ z e. utf8_span_reads.Learnt κs (v.file, (v.table, (n, tt))) z (v.file, (v.table, (n, tt))) ∷ [])
@@ -117,7 +117,7 @@ module _ (v : PoolView) (n : ℕ) where
         let x = dependants_of v.file.now v.table.now n room in
         Is reading_listed (mapped length x) z ∷ (left.now ≡ after 0 (λ xs. xs) room x) ∷ []
 
-    pub views-dependants : (κs : _) → Claims over-dependants.ended (λ M 𝓤 𝓛. over-dependants.clauses 𝓛) κs (v, (n, (list, tt))) (λ z e. listed z e.1.1.0)
+    pub views-dependants : (κs : _) → Claims over_dependants.ended (λ M 𝓤 𝓛. over_dependants.clauses 𝓛) κs (v, (n, (list, tt))) (λ z e. listed z e.1.1.0)
     views-dependants κs = record { text = λ w g z e. refl }
 
     pub views-dependants_same : (κs : _) (z : DependantsAnswer) (left : MutBor (List ℕ)) → dependants_reads.Learnt κs (v.file, (v.table, (n, (list, tt)))) z (v.file, (v.table, (n, (left, tt)))) ≡ AllOf (listed z left)

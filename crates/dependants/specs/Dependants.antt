@@ -1,6 +1,6 @@
 -- The dependants of a slot, asked of a handed table. Document 01, demand 3 and "Refusal numbers". Assumes nothing.
 use Rattle.std.specs.Prelude.{ℕ, List, length, leb}
-use Rattle.reads.specs.Answer.{Answer, accept, refuse, ◌>>=◌, require}
+use Rattle.reads.specs.Answer.{Answer, accept, ◌>>=◌, require}
 use Rattle.pool.specs.Pool.{Pool}
 use Rattle.slot.specs.Slots.{in_range}
 use Rattle.handed.specs.Handed.{lookup}

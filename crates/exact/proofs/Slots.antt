@@ -10,7 +10,7 @@ use lib.Dec.{leb, ltb, eqb}
 use borrow.Author.Tests.{eqb-true, eqb-false, ltb-false, le-ltb, eq-eqb, ne_eqb}
 use Rattle.reads.specs.Answer.{Answer, Check, accept, fine, refuse, ◌>>=◌, require, each}
 use Rattle.reads.specs.Bytes.{within, u1, u2, u4, skipped}
-use Rattle.reads.proofs.Answers.{never, first, each_at}
+use Rattle.reads.proofs.Answers.{never, each_at}
 use Rattle.text.specs.Text.{is_text, binary}
 use Rattle.descriptors.specs.Descriptors.{stands, array_descriptor}
 use Rattle.pool.specs.Kinds as kind

@@ -1,11 +1,11 @@
 -- An entry is refused with the number of the first of its tests that fails. Assumes nothing.
 use mathlib.Core.Path.{◌≡◌, refl, ap, sym, ◌∙◌}
-use mathlib.Core.Bool.{Bool, true, false, cond, true≢false}
+use mathlib.Core.Bool.{Bool, true, false, cond}
 use mathlib.Core.List.{List, [], ◌∷◌, ◌++◌}
 use mathlib.Core.Logic.{◌↔◌, inl, inr, ⊎_elim}
 use Prim.Native.Nat.{ℕ, ◌+◌}
 use lib.Dec.{eqb}
-use Rattle.reads.specs.Answer.{Check, fine, accept, refuse, ◌>>=◌, require}
+use Rattle.reads.specs.Answer.{Check, fine, refuse, ◌>>=◌, require}
 use Rattle.reads.proofs.Answers.{never}
 use Rattle.reads.specs.Bytes.{num1}
 use Rattle.text.specs.Text.{unqualified}

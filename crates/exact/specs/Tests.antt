@@ -1,5 +1,5 @@
 -- A statement: the rule of each entry as a list of tests, "checked left to right", each with the number that is given where it fails. Document 01, "Pool slots". Assumes nothing.
-use Rattle.std.specs.Prelude.{ℕ, ◌+◌, ◌≡◌, List, [], ◌∷◌, ◌++◌, Bool, true, false, ◌||◌, cond, ◌⊎◌, eqb}
+use Rattle.std.specs.Prelude.{ℕ, ◌+◌, ◌≡◌, List, [], ◌∷◌, Bool, true, false, ◌||◌, cond, ◌⊎◌, eqb}
 use Rattle.reads.specs.Bytes.{num1}
 use Rattle.text.specs.Text.{is_text, unqualified, binary, module_name}
 use Rattle.descriptors.specs.Descriptors.{stands, array_descriptor, field_descriptor, method_descriptor}

@@ -1,5 +1,5 @@
 -- A call on a handed table looks at nothing after the pool: a file that begins alike is answered alike. Assumes nothing.
-use mathlib.Core.Path.{◌≡◌, refl, sym, ◌∙◌}
+use mathlib.Core.Path.{◌≡◌, refl, ◌∙◌}
 use mathlib.Core.List.{List}
 use Prim.Native.Nat.{ℕ, ◌≤◌}
 use lib.ListN.{length}
@@ -7,7 +7,6 @@ use Rattle.reads.specs.Answer.{Check, accept, refuse, ◌>>=◌, mapped}
 use Rattle.pool.specs.Pool.{Whole, read_pool}
 use Rattle.pool.specs.Beginnings.{Begins}
 use Rattle.pool.proofs.Settling.{read_there}
-use Rattle.checks.specs.Checks.{checked}
 use Rattle.checks.specs.Beginnings.{of_file}
 use Rattle.checks.proofs.Beginnings.{same_checks}
 use Rattle.handed.specs.Handed.{agree, judged, no_limit, handed}

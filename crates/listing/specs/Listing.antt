@@ -1,6 +1,6 @@
 -- Every slot of a pool by its tag and two numbers, in columns; not document 01's, a form of its lookups. Assumes nothing.
 use Rattle.std.specs.Prelude.{ℕ, zero, suc, ◌+◌, min, List, [], ◌∷◌, ◌++◌, cond, length, leb, eqb}
-use Rattle.reads.specs.Answer.{Answer, accept, refuse, ◌>>=◌, require}
+use Rattle.reads.specs.Answer.{Answer, accept, ◌>>=◌, require}
 use Rattle.pool.specs.Kinds as kind
 use Rattle.pool.specs.Pool.{Pool, slots}
 use Rattle.slot.specs.Slots.{cell, tag_of}

@@ -1,7 +1,7 @@
 -- The search for a duplicate: one step along both columns, and its ends. Assumes nothing.
 use mathlib.Core.Path.{◌≡◌, refl, ap}
-use mathlib.Core.Bool.{Bool, true, false, ◌&&◌, ◌||◌}
-use mathlib.Core.List.{List, [], ◌∷◌}
+use mathlib.Core.Bool.{true, false, ◌&&◌, ◌||◌}
+use mathlib.Core.List.{List}
 use Prim.Native.Nat.{ℕ, ◌+◌, ◌≤◌, ◌<◌}
 use lib.ListN.{length, drop, get_or, drop_of_length-le}
 use Rattle.text.proofs.Names.{at, decides}

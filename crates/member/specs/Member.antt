@@ -1,7 +1,7 @@
 -- A field or a method, up to its attributes. Document 01, "Members and lookups". Assumes nothing.
 use Rattle.std.specs.Prelude.{ℕ, ◌+◌, List, [], ◌∷◌, Bool, true, false, not, ◌&&◌, ◌||◌, cond, ltb, eqb}
 use Rattle.std.specs.Int.Bits.{bit_and}
-use Rattle.reads.specs.Answer.{Answer, Check, fine, accept, refuse, ◌>>=◌, require}
+use Rattle.reads.specs.Answer.{Answer, Check, accept, ◌>>=◌, require}
 use Rattle.reads.specs.Bytes.{u2}
 use Rattle.text.specs.Text.{same, unqualified, is_init, is_clinit, method_name}
 use Rattle.descriptors.specs.Descriptors.{field_descriptor, method_descriptor, returns_void, takes_nothing}

@@ -1,19 +1,19 @@
 -- Every cell of a pool that was read is that of an entry that was read whole, before the byte after the pool. So the part of the file that a Utf8 hands back is never cut. Assumes nothing.
-use mathlib.Core.Path.{◌≡◌, refl, ap, sym, ◌∙◌}
-use mathlib.Core.Bool.{Bool, true, false, cond}
+use mathlib.Core.Path.{◌≡◌, ap, ◌∙◌}
+use mathlib.Core.Bool.{Bool, true, false}
 use mathlib.Core.List.{List, [], ◌∷◌, ◌++◌}
 use Prim.Native.Nat.{ℕ, zero, suc, ◌+◌, ◌-◌, ◌≤◌, ◌<◌}
 use native.Mathlib.Omega.{arith}
-use lib.ListN.{length, get_or, take, drop, length-take, length-drop}
-use lib.Dec.{leb, ltb, eqb}
-use Rattle.reads.specs.Answer.{accept, require}
+use lib.ListN.{length, get_or}
+use lib.Dec.{leb, ltb}
+use Rattle.reads.specs.Answer.{accept}
 use Rattle.reads.specs.Bytes.{num1, num2, u1, u2, skipped}
 use Rattle.reads.proofs.Answers.{first, held}
 use Rattle.pool.specs.Kinds as kind
 use Rattle.pool.specs.declared.Entry.{Entry}
 use Rattle.pool.specs.declared.Slot.{Slot}
 use Rattle.pool.specs.Rows.{since, first as width, second, row_of}
-use Rattle.pool.specs.Pool.{Read, Whole, second_width, wide, entry_at, slot_at, entries, all_entries, header_of, read_pool}
+use Rattle.pool.specs.Pool.{Read, Whole, second_width, entry_at, slot_at, entries, all_entries, header_of, read_pool}
 use Rattle.pool.proofs.Entries.{same}
 use Rattle.reads.proofs.Leaves.{u1_is, u2_is, skipped_in}
 

@@ -1,5 +1,5 @@
 -- What an entry, a slot and a header that were read say of the file. Assumes nothing.
-use mathlib.Core.Path.{◌≡◌, refl, ap, sym}
+use mathlib.Core.Path.{◌≡◌, ap, sym}
 use mathlib.Core.Bool.{Bool, true, false}
 use mathlib.Core.List.{List}
 use Prim.Native.Nat.{ℕ, zero, suc, ◌+◌, ◌≤◌, ◌<◌}
@@ -7,7 +7,7 @@ use native.Mathlib.Omega.{arith}
 use lib.ListN.{length}
 use lib.Dec.{leb, ltb}
 use borrow.Author.Tests.{leb-true, ltb-true}
-use Rattle.reads.specs.Answer.{Answer, accept, refuse, ◌>>=◌, require}
+use Rattle.reads.specs.Answer.{accept}
 use Rattle.reads.specs.Bytes.{num1, num2, u1, u2}
 pub use Rattle.reads.proofs.Answers.{same}
 use Rattle.reads.proofs.Answers.{first, held}

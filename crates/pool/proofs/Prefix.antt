@@ -1,23 +1,23 @@
 -- Two files that begin alike: what was read of the pool in one is read in the other, and slots hold the same. Assumes nothing.
 use mathlib.Core.Path.{◌≡◌, refl, ap, sym, subst, ◌∙◌}
-use mathlib.Core.Bool.{Bool, true, false, not, ◌&&◌, ◌||◌, cond}
+use mathlib.Core.Bool.{Bool, true, false, ◌&&◌, cond}
 use mathlib.Core.List.{List, [], ◌∷◌, ◌++◌}
 use Prim.Native.Nat.{ℕ, zero, suc, ◌+◌, ◌-◌, ◌≤◌, ◌<◌}
 use native.Mathlib.Omega.{arith}
-use lib.ListN.{length, get_or, take, drop, length-append, length-drop, get_or-append}
+use lib.ListN.{length, take, drop, length-append, length-drop, get_or-append}
 use lib.Seq.{drop-append-le, take-append-le}
 use lib.Dec.{leb, ltb, eqb}
-use borrow.Author.Tests.{le-leb, eqb-true, eqb-false, ltb-true}
-use Rattle.reads.specs.Answer.{Answer, Check, accept, fine, refuse, require, each, ◌>>=◌}
-use Rattle.reads.specs.Bytes.{num1, num2, num4, u1, u2, u4, within, skipped}
-use Rattle.reads.proofs.Answers.{same, first, held, required, each_at, alike}
-use Rattle.reads.proofs.Leaves.{fits, u1_is, u2_is, skipped_in}
+use borrow.Author.Tests.{le-leb, eqb-true}
+use Rattle.reads.specs.Answer.{Answer, accept, require, ◌>>=◌}
+use Rattle.reads.specs.Bytes.{num1, num2, num4, u1, u2, u4, skipped}
+use Rattle.reads.proofs.Answers.{same, first, held}
+use Rattle.reads.proofs.Leaves.{fits, u1_is, skipped_in}
 use Rattle.pool.specs.Kinds as kind
 use Rattle.pool.specs.declared.Entry.{Entry}
 use Rattle.pool.specs.declared.Slot.{Slot}
 use Rattle.pool.specs.declared.Header.{Header}
 use Rattle.pool.specs.Rows.{since, first as width, second, row_of}
-use Rattle.pool.specs.Pool.{Pool, Read, Whole, room_for, second_width, wide, entry_at, slot_at, entries, all_entries, header_of, whole_of, read_pool, slots}
+use Rattle.pool.specs.Pool.{Read, Whole, second_width, entry_at, slot_at, entries, all_entries, header_of, whole_of, read_pool}
 
 -- what stands before their common end
 module _ (h x : List ℕ) where

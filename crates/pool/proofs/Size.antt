@@ -1,14 +1,14 @@
 -- A pool takes three bytes of the file or more for each slot, so that room by the size of the file is room enough. Assumes nothing.
-use mathlib.Core.Path.{◌≡◌, refl, ap, sym, ◌∙◌}
+use mathlib.Core.Path.{◌≡◌, refl, ap}
 use mathlib.Core.Bool.{Bool, true, false, ◌&&◌, cond}
 use mathlib.Core.List.{List, [], ◌∷◌, ◌++◌}
-use Prim.Native.Nat.{ℕ, zero, suc, ◌+◌, ◌-◌, ◌*◌, ◌/◌, ◌≤◌, ◌<◌}
+use Prim.Native.Nat.{ℕ, zero, suc, ◌+◌, ◌-◌, ◌*◌, ◌≤◌, ◌<◌}
 use native.Mathlib.Omega.{arith}
 use lib.ListN.{length}
 use lib.Dec.{leb, ltb, eqb}
 use borrow.Author.Tests.{lt-ltb, leb-true, eqb-true}
-use Rattle.reads.specs.Answer.{accept, ◌>>=◌}
-use Rattle.reads.specs.Bytes.{u1, u2, u4, skipped, num2}
+use Rattle.reads.specs.Answer.{accept}
+use Rattle.reads.specs.Bytes.{u1, u2, u4, skipped}
 use Rattle.reads.proofs.Answers.{same, first, held, alike}
 use Rattle.reads.proofs.Leaves.{Bytes, pair_below, u2_in, skipped_in}
 use Rattle.reads.proofs.Tables.{longer}

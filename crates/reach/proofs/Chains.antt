@@ -1,26 +1,23 @@
 -- No chain of references in a checked pool is longer than three. Assumes nothing.
-use Prim.Native.Nat.{ℕ, ◌+◌, ◌≤◌, ◌<◌}
+use Prim.Native.Nat.{ℕ, ◌≤◌, ◌<◌}
 use native.Mathlib.Omega.{arith}
 use mathlib.Core.Path.{◌≡◌, refl}
 use mathlib.Core.List.Memᴰ
-use mathlib.Core.List.{List, [], ◌∷◌}
+use mathlib.Core.List.{[], ◌∷◌}
 use mathlib.Core.Bool.{Bool, true, false, cond}
 use mathlib.Core.Logic.{⊎_elim}
 use lib.ListN.{get_or-eq_default}
 use lib.Dec.{ltb, eqb}
-use borrow.Author.Tests.{eqb-true, eqb-false, ltb-true, ltb-false}
+use borrow.Author.Tests.{eqb-false, ltb-true, ltb-false}
 use Rattle.reads.specs.Answer.{fine, each}
-use Rattle.reads.specs.Bytes.{num1}
-use Rattle.reads.proofs.Answers.{first, required, each_at}
-use Rattle.pool.specs.declared.Row.{Row}
-use Rattle.pool.specs.Kinds as kind
-use Rattle.pool.specs.Rows.{one, other, none, rows, find, row_of}
+use Rattle.reads.proofs.Answers.{first, each_at}
+use Rattle.pool.specs.Rows.{one, other, row_of}
 use Rattle.pool.specs.Pool.{Pool, slots}
-use Rattle.slot.specs.Slots.{cell, tag_of, field, of_kind, text_at, text_of, class_text, typed}
-use Rattle.checks.specs.Checks.{references, handled, handle, member, name_and_type, rules, follow, obey, checked}
+use Rattle.slot.specs.Slots.{tag_of, field}
+use Rattle.checks.specs.Checks.{references, obey, checked}
 use Rattle.reach.specs.Reach.{◌∈◌, named, refers_to, Refers, Chain, stop, step}
 use Rattle.checks.proofs.Ranks.{rank, rank≤3, low, lower}
-use Rattle.checks.proofs.Lower.{every_lower, tagged}
+use Rattle.checks.proofs.Lower.{every_lower}
 
 -- ---- references
 

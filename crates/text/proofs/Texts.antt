@@ -1,12 +1,12 @@
 -- Text is exactly a run of the forms of the table, however it is cut into them: no two forms meet, so the first that begins is the only one. Assumes nothing.
-use Prim.Native.Nat.{ℕ, zero, suc, ◌+◌, ◌≤◌, ◌<◌}
+use Prim.Native.Nat.{ℕ, zero, suc, ◌≤◌, ◌<◌}
 use native.Mathlib.Omega.{arith}
 use mathlib.Core.Path.{◌≡◌, refl, sym, ◌∙◌, subst}
 use mathlib.Core.List.{List, [], ◌∷◌, ◌++◌}
 use mathlib.Core.Bool.{Bool, true, false, cond, not, ◌&&◌, true≢false}
 use lib.ListN.{length, take, drop, length-append, length-drop}
 use lib.Seq.{take_all, length-take-le, drop-append_seam, take-add}
-use lib.Dec.{leb, eqb}
+use lib.Dec.{leb}
 use borrow.Author.Tests.{le-leb, leb-true, eq-eqb, eqb-true, not-true}
 use Rattle.text.proofs.Laws.{and_both, begins_in, text_in}
 use Rattle.text.proofs.Runs.{run_step, run_stop}

@@ -1,5 +1,4 @@
 -- `ascii::few` meets its contract. Assumes nothing.
-use Prim.Native.Nat.{◌-◌}
 use Rattle.ascii.proofs.Windows.{begin, done, byte_on, byte_stop}
 use mathlib.Core.Path.{ap}
 use mathlib.Core.Bool.{not}

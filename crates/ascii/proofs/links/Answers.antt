@@ -1,5 +1,4 @@
 -- `ascii::links` meets its contract. Assumes nothing.
-use Prim.Native.Nat.{◌-◌}
 use native.Mathlib.Omega.{arith}
 use Rattle.ascii.proofs.Chains.{begin, linked_none, on}
 use mathlib.Core.Path.{ap}

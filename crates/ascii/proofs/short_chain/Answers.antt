@@ -1,5 +1,4 @@
 -- `ascii::short_chain` meets its contract. Assumes nothing.
-use Prim.Native.Nat.{◌-◌}
 use native.Mathlib.Omega.{arith}
 use mathlib.Core.Path.{◌∙◌}
 use Rattle.ascii.proofs.Chains.{begin, first_stop, on, off, pair_at, all_linked}

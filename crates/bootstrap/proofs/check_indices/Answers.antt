@@ -1,7 +1,6 @@
 -- `bootstrap::check_indices` meets its contract. Assumes nothing.
 use native.Mathlib.Omega.{arith}
 use mathlib.Core.Path.{sym, ◌∙◌}
-use Prim.Native.Nat.{◌-◌}
 use Rattle.reads.specs.Promise.{reading_check}
 use Rattle.reads.proofs.Answers.{got, each_go, each_stop, each_done}
 use Rattle.pool.specs.Pool.{seen}

@@ -3,7 +3,6 @@ use native.Mathlib.Omega.{arith}
 use mathlib.Core.Path.{refl, ◌∙◌}
 use Rattle.reads.specs.Promise.{reading_next}
 use Rattle.reads.proofs.Answers.{got}
-use Rattle.bootstrap.specs.Bootstrap.{method_at}
 use Rattle.bootstrap.proofs.Bodies.{steps_go, steps_stop, steps_done}
 use Rattle.bootstrap.proofs.methods.Goals as goal
 

@@ -1,6 +1,5 @@
 -- `cells::clear_bytes` meets its contract. Assumes nothing.
 use native.Mathlib.Omega.{arith}
-use Prim.Native.Nat.{◌-◌}
 use Rattle.reads.proofs.Tables.{zero_none, zero_more, zero_all}
 use Rattle.cells.proofs.clear_bytes.Goals as goal
 

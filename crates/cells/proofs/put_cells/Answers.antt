@@ -1,5 +1,4 @@
 -- `cells::put_cells` meets its contract. Assumes nothing.
-use Prim.Native.Nat.{◌-◌}
 use Rattle.cells.proofs.Filling.{begin, turn, end}
 use Rattle.cells.proofs.put_cells.Goals as goal
 

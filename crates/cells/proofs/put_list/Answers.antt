@@ -1,5 +1,4 @@
 -- `cells::put_list` meets its contract. Assumes nothing.
-use Prim.Native.Nat.{◌-◌}
 use native.Mathlib.Omega.{arith}
 use Rattle.cells.proofs.Filling.{begin, turn, end}
 use Rattle.cells.proofs.put_list.Goals as goal

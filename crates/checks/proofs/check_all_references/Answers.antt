@@ -1,6 +1,5 @@
 -- `checks::check_all_references` meets its contract. Assumes nothing.
 use mathlib.Core.Path.{refl, sym, ◌∙◌}
-use Prim.Native.Nat.{◌-◌}
 use native.Mathlib.Nat.{sub-zero}
 use Rattle.reads.specs.Promise.{reading_check}
 use Rattle.reads.proofs.Answers.{got, each_go, each_stop, each_done}

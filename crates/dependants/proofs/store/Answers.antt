@@ -1,7 +1,6 @@
 -- `dependants::store` meets its contract. Assumes nothing.
 use native.Mathlib.Omega.{arith}
 use mathlib.Core.Path.{refl, sym, ◌∙◌}
-use Prim.Native.Nat.{◌-◌}
 use Rattle.dependants.proofs.Stored.{begin, hit, miss, done, no_more}
 use Rattle.reads.proofs.Clauses.{number_list}
 use Rattle.dependants.proofs.store.Goals as goal

@@ -1,5 +1,4 @@
 -- `descriptors::dimensions` meets its contract. The loop's invariant: the `[` from `i` on end where those of the whole do. Assumes nothing.
-use Prim.Native.Nat.{◌-◌}
 use native.Mathlib.Nat.{zero-add}
 use native.Mathlib.Omega.{arith}
 use borrow.Author.Tests.{eq-eqb, ne_eqb}

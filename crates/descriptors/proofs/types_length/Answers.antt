@@ -1,5 +1,4 @@
 -- `descriptors::types_length` meets its contract. The loop's invariant: the run from `i` on ends where the whole run does. Assumes nothing.
-use Prim.Native.Nat.{◌-◌}
 use native.Mathlib.Omega.{arith}
 use Rattle.descriptors.specs.Descriptors.{type_length}
 use Rattle.descriptors.proofs.Types.{type_in}

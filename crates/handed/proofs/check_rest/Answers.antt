@@ -1,6 +1,5 @@
 -- `handed::check_rest` meets its contract. Assumes nothing.
 use mathlib.Core.Path.{refl, sym, ◌∙◌}
-use Prim.Native.Nat.{◌-◌}
 use Rattle.reads.specs.Promise.{reading_check}
 use Rattle.reads.proofs.Answers.{got, each_go, each_stop, each_done}
 use Rattle.handed.specs.Walk.{rest}

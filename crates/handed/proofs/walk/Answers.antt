@@ -1,6 +1,5 @@
 -- `handed::walk` meets its contract. Assumes nothing.
 use native.Mathlib.Omega.{arith}
-use Prim.Native.Nat.{◌-◌}
 use Rattle.reads.proofs.Answers.{got}
 use Rattle.pool.specs.Readings.{reading_slot}
 use Rattle.handed.proofs.Walking.{begin, turn, stopped, last, done}

@@ -1,7 +1,6 @@
 -- `listing::fill` meets its contract. Assumes nothing.
 use native.Mathlib.Omega.{arith}
 use mathlib.Core.Path.{refl}
-use Prim.Native.Nat.{◌-◌}
 use Rattle.listing.proofs.Filling.{begin, turn, finished}
 use Rattle.listing.proofs.fill.Goals as goal
 

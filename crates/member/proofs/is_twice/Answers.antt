@@ -1,5 +1,4 @@
 -- `member::is_twice` meets its contract. Assumes nothing.
-use Prim.Native.Nat.{◌-◌}
 use mathlib.Core.Path.{refl}
 use Rattle.member.proofs.Duplicates.{twice_in, twice_out, twice_short}
 use Rattle.member.proofs.is_twice.Goals as goal

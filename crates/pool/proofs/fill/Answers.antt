@@ -1,7 +1,7 @@
 -- `pool::fill` meets its contract. Assumes nothing.
 use native.Mathlib.Omega.{arith}
 use mathlib.Core.Path.{refl, ap, ◌∙◌}
-use Prim.Native.Nat.{ℕ, ◌-◌}
+use Prim.Native.Nat.{ℕ}
 use lib.ListN.{replicate}
 use Rattle.reads.proofs.Answers.{got}
 use Rattle.pool.specs.Readings.{reading_slot}

@@ -1,6 +1,5 @@
 -- `reads::clear_list` meets its contract. Assumes nothing.
 use native.Mathlib.Omega.{arith}
-use Prim.Native.Nat.{◌-◌}
 use Rattle.reads.proofs.Tables.{zero_none, zero_more, zero_all}
 use Rattle.reads.proofs.clear_list.Goals as goal
 

@@ -1,5 +1,4 @@
 -- `text::module_length` meets its contract. The loop's invariant: the run from `i` on ends where the whole run does. Assumes nothing.
-use Prim.Native.Nat.{◌-◌}
 use native.Mathlib.Omega.{arith}
 use Rattle.text.specs.Text.{module_form}
 use Rattle.text.proofs.Names.{module_in}

@@ -1,5 +1,4 @@
 -- `text::plain_length` meets its contract. The loop's invariant: the first mark from `i` on is the first of all. Assumes nothing.
-use Prim.Native.Nat.{◌-◌}
 use native.Mathlib.Nat.{zero-add}
 use native.Mathlib.Omega.{arith}
 use mathlib.Core.Path.{sym, ◌∙◌}

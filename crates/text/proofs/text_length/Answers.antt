@@ -1,5 +1,4 @@
 -- `text::text_length` meets its contract. The loop's invariant: the run from `i` on ends where the whole run does. Assumes nothing.
-use Prim.Native.Nat.{◌-◌}
 use native.Mathlib.Omega.{arith}
 use Rattle.text.specs.Text.{text_form}
 use Rattle.text.proofs.Laws.{text_in}

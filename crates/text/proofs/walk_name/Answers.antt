@@ -1,8 +1,6 @@
 -- `text::walk_name` meets its contract. The loop's invariant: the walk from `i` on, at `seen`, ends as the whole walk does. Assumes nothing.
-use Prim.Native.Nat.{◌-◌}
 use native.Mathlib.Nat.{zero-add}
 use native.Mathlib.Omega.{arith}
-use mathlib.Core.Bool.{false}
 use mathlib.Core.Path.{refl}
 use Rattle.text.proofs.Names.{walked_in, walked_out, whole_in, whole_out}
 use Rattle.text.proofs.walk_name.Goals as goal

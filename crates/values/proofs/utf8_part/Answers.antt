@@ -1,7 +1,7 @@
 -- `values::utf8_part` meets its contract. Assumes nothing.
 use mathlib.Core.Path.{refl, ap, ◌∙◌}
 use native.Mathlib.Nat.{add_comm}
-use Prim.Native.Nat.{◌+◌, ◌-◌}
+use Prim.Native.Nat.{◌+◌}
 use Rattle.values.specs.declared.Span.{Span}
 use Rattle.values.proofs.Parts.{part}
 use borrow.Author.Rules.{rules}
