@@ -2,54 +2,58 @@
 // answer and every lent table, whole.
 #![tactic(auto)]
 
-ghost use Rattle.std.specs.Prelude.{◌≡◌, ◌≤◌, length, take};
+ghost use Rattle.std.specs.Prelude.{◌≡◌, ◌≤◌, length, take, IfOk};
 
 use class::{Class, ClassAnswer};
+use std::io;
+use std::io::{BufWriter, Read, Write};
+use std::rt::Files;
 
 // A column: its name and its cells.
-fn print_cells(name: &[u8], cells: &[u32]) {
-    script::print(name);
-    script::print_cells(cells);
-    script::print(b"\n");
+fn print_cells(out: &mut impl Write, name: &[u8], cells: &[u32]) -> io::Result<()> {
+    script::print(out, name)?;
+    script::print_cells(out, cells)?;
+    script::print(out, b"\n")
 }
 
-fn print_list(name: &[u8], list: &[u16]) {
-    script::print(name);
-    script::print_list(list);
-    script::print(b"\n");
+fn print_list(out: &mut impl Write, name: &[u8], list: &[u16]) -> io::Result<()> {
+    script::print(out, name)?;
+    script::print_list(out, list)?;
+    script::print(out, b"\n")
 }
 
-fn print_class(c: Class) {
-    script::print(b"accepted");
-    script::print_field(c.slots as u64);
-    script::print_field(c.minor as u64);
-    script::print_field(c.major as u64);
-    script::print_field(c.flags as u64);
-    script::print_field(c.this as u64);
-    script::print_field(c.parent as u64);
-    script::print_field(c.interfaces as u64);
-    script::print_field(c.fields as u64);
-    script::print_field(c.methods as u64);
-    script::print_field(c.used as u64);
-    script::print_field(c.own as u64);
+fn print_class(out: &mut impl Write, c: Class) -> io::Result<()> {
+    script::print(out, b"accepted")?;
+    script::print_field(out, c.slots as u64)?;
+    script::print_field(out, c.minor as u64)?;
+    script::print_field(out, c.major as u64)?;
+    script::print_field(out, c.flags as u64)?;
+    script::print_field(out, c.this as u64)?;
+    script::print_field(out, c.parent as u64)?;
+    script::print_field(out, c.interfaces as u64)?;
+    script::print_field(out, c.fields as u64)?;
+    script::print_field(out, c.methods as u64)?;
+    script::print_field(out, c.used as u64)?;
+    script::print_field(out, c.own as u64)
 }
 
-fn print_answer(answer: ClassAnswer) {
+fn print_answer(out: &mut impl Write, answer: ClassAnswer) -> io::Result<()> {
     match answer {
         ClassAnswer::Refused(r) => {
-            script::print(b"refused");
-            script::print_field(r.number as u64);
-            script::print_field(r.place as u64);
+            script::print(out, b"refused")?;
+            script::print_field(out, r.number as u64)?;
+            script::print_field(out, r.place as u64)?;
         }
         ClassAnswer::Accepted(c) => {
-            print_class(c);
+            print_class(out, c)?;
         }
     }
-    script::print(b"\n");
+    script::print(out, b"\n")
 }
 
 // Reads a file into these tables, and writes the answer and the tables.
 fn show(
+    out: &mut impl Write,
     file: &[u8],
     table: &mut [u32],
     interfaces: &mut [u16],
@@ -61,25 +65,32 @@ fn show(
     titles: &mut [u16],
     bodies: &mut [u32],
     lengths: &mut [u32],
-) {
+) -> io::Result<()> {
     let answer = class::read_class(
         file, table, interfaces, flags, names, types, firsts, counts, titles, bodies, lengths,
     );
-    print_answer(answer);
-    print_cells(b"  cells", table);
-    print_list(b"  interfaces", interfaces);
-    print_list(b"  flags", flags);
-    print_list(b"  names", names);
-    print_list(b"  descriptors", types);
-    print_cells(b"  firsts", firsts);
-    print_list(b"  counts", counts);
-    print_list(b"  attributes", titles);
-    print_cells(b"  bodies", bodies);
-    print_cells(b"  lengths", lengths);
+    print_answer(out, answer)?;
+    print_cells(out, b"  cells", table)?;
+    print_list(out, b"  interfaces", interfaces)?;
+    print_list(out, b"  flags", flags)?;
+    print_list(out, b"  names", names)?;
+    print_list(out, b"  descriptors", types)?;
+    print_cells(out, b"  firsts", firsts)?;
+    print_list(out, b"  counts", counts)?;
+    print_list(out, b"  attributes", titles)?;
+    print_cells(out, b"  bodies", bodies)?;
+    print_cells(out, b"  lengths", lengths)
 }
 
 // Reads a file into tables of so many cells, interfaces, member records and attribute records.
-fn show_in(file: &[u8], cells: usize, interfaces: usize, members: usize, attributes: usize)
+fn show_in(
+    out: &mut impl Write,
+    file: &[u8],
+    cells: usize,
+    interfaces: usize,
+    members: usize,
+    attributes: usize,
+) -> io::Result<()>
     requires { (cells ≤ 80) × (interfaces ≤ 4) × (members ≤ 20) × (attributes ≤ 30) }
 {
     let mut table = [0u32; 80];
@@ -93,6 +104,7 @@ fn show_in(file: &[u8], cells: usize, interfaces: usize, members: usize, attribu
     let mut bodies = [0u32; 30];
     let mut lengths = [0u32; 30];
     show(
+        out,
         file,
         &mut table[..cells],
         &mut list[..interfaces],
@@ -104,65 +116,88 @@ fn show_in(file: &[u8], cells: usize, interfaces: usize, members: usize, attribu
         &mut titles[..attributes],
         &mut bodies[..attributes],
         &mut lengths[..attributes],
-    );
+    )
 }
 
 // Reads a file into tables as large as a word says.
-fn show_as(size: &[u8], file: &[u8]) {
+fn show_as(out: &mut impl Write, size: &[u8], file: &[u8]) -> io::Result<()> {
     if script::is(size, b"short") {
-        show_in(file, 5, 1, 1, 1);
-        return;
+        return show_in(out, file, 5, 1, 1, 1);
     }
     if script::is(size, b"tight") {
-        show_in(file, 60, 1, 1, 1);
-        return;
+        return show_in(out, file, 60, 1, 1, 1);
     }
     if script::is(size, b"large") {
-        show_in(file, 80, 4, 20, 30);
-        return;
+        return show_in(out, file, 80, 4, 20, 30);
     }
-    show_in(file, 60, 3, 4, 5);
+    show_in(out, file, 60, 3, 4, 5)
 }
 
 // The bytes that a line gives, in hexadecimal or as a file's name: how many they are.
-fn bytes_asked(line: &[u8], space: &mut [u8]) -> usize
-    ensures { (result ≤ length space.new) × (result ≡ length (take result space.new)) }
+fn bytes_asked(files: &impl Files, line: &[u8], space: &mut [u8]) -> io::Result<usize>
+    ensures { IfOk result (λ n. (n ≤ length space.new) × (n ≡ length (take n space.new))) }
 {
     if script::is(script::word(line, 0), b"file") {
-        return script::read_file(script::word(line, 2), space);
+        return script::read_file(files, script::word(line, 2), space);
     }
-    script::bytes(script::word(line, 2), space)
+    Ok(script::bytes(script::word(line, 2), space))
 }
 
-fn answer(line: &[u8], space: &mut [u8]) {
-    let n = bytes_asked(line, space);
-    show_as(script::word(line, 1), &space[..n]);
+fn answer(
+    files: &impl Files,
+    out: &mut impl Write,
+    line: &[u8],
+    space: &mut [u8],
+) -> io::Result<()> {
+    let n = bytes_asked(files, line, space)?;
+    show_as(out, script::word(line, 1), &space[..n])
 }
 
 // Writes a line, and the answer where it asks for one.
-fn respond(line: &[u8], space: &mut [u8]) {
-    script::print(line);
-    script::print(b"\n");
+fn respond(
+    files: &impl Files,
+    out: &mut impl Write,
+    line: &[u8],
+    space: &mut [u8],
+) -> io::Result<()> {
+    script::print(out, line)?;
+    script::print(out, b"\n")?;
     if script::is_asked(line) {
-        answer(line, space);
+        answer(files, out, line, space)?;
     }
+    Ok(())
 }
 
-fn respond_to_all(input: &[u8], space: &mut [u8]) {
+fn respond_to_all(
+    files: &impl Files,
+    out: &mut impl Write,
+    input: &[u8],
+    space: &mut [u8],
+) -> io::Result<()> {
     let mut at = 0;
     while at < input.len() {
-        respond(script::line(input, at), space);
+        respond(files, out, script::line(input, at), space)?;
         at = script::next_line(input, at);
     }
+    Ok(())
 }
 
-fn run(input: &mut [u8], space: &mut [u8]) {
-    let n = io::read_full(0, input);
-    respond_to_all(&input[..n], space);
+fn run(
+    files: &impl Files,
+    from: impl Read + Drop,
+    out: &mut impl Write,
+    input: &mut [u8],
+    space: &mut [u8],
+) -> io::Result<()> {
+    let n = script::read_full(from, input)?;
+    respond_to_all(files, out, &input[..n], space)
 }
 
-fn main() {
+fn main(rt: HostRuntime) -> io::Result<()> {
     let mut input = script::space();
-    let mut space = io::large_buffer();
-    run(&mut input, &mut space);
+    let mut space = script::large_buffer();
+    let mut out = BufWriter::new(rt.alloc(), io::writer(&rt))?;
+    let done = run(&rt, rt.reader(), &mut out, &mut input, &mut space);
+    out.flush()?;
+    done
 }

@@ -3,24 +3,27 @@
 // number of a cell of the table and what is put there. The answer is the number listed, or the refusal, and every lent cell afterwards.
 #![tactic(auto)]
 
-ghost use Rattle.std.specs.Prelude.{◌≡◌, ◌≤◌, length, take};
+ghost use Rattle.std.specs.Prelude.{◌≡◌, ◌≤◌, length, take, IfOk};
 
 use dependants::DependantsAnswer;
+use std::io;
+use std::io::{BufWriter, Read, Write};
+use std::rt::Files;
 
-fn print_answer(answer: DependantsAnswer) {
+fn print_answer(out: &mut impl Write, answer: DependantsAnswer) -> io::Result<()> {
     match answer {
         DependantsAnswer::Listed(n) => {
-            script::print(b"listed ");
-            script::print_number(n as u64);
+            script::print(out, b"listed ")?;
+            script::print_number(out, n as u64)?;
         }
         DependantsAnswer::Refused(r) => {
-            script::print(b"refused ");
-            script::print_number(r.number as u64);
-            script::print(b" at ");
-            script::print_number(r.place as u64);
+            script::print(out, b"refused ")?;
+            script::print_number(out, r.number as u64)?;
+            script::print(out, b" at ")?;
+            script::print_number(out, r.place as u64)?;
         }
     }
-    script::print(b":");
+    script::print(out, b":")
 }
 
 // Cells that a call must write or make zero.
@@ -32,12 +35,18 @@ fn soil(list: &mut [u16]) {
     }
 }
 
-fn ask(file: &[u8], table: &[u32], slot: u32, list: &mut [u16]) {
+fn ask(
+    out: &mut impl Write,
+    file: &[u8],
+    table: &[u32],
+    slot: u32,
+    list: &mut [u16],
+) -> io::Result<()> {
     soil(list);
     let answer = dependants::dependants(file, table, slot, list);
-    print_answer(answer);
-    script::print_list(list);
-    script::print(b"\n");
+    print_answer(out, answer)?;
+    script::print_list(out, list)?;
+    script::print(out, b"\n")
 }
 
 // Puts a number into a cell of the table, where the table has that cell and the number fits.
@@ -61,7 +70,13 @@ fn make_table(line: &[u8], file: &[u8], table: &mut [u32]) {
     }
 }
 
-fn answer(line: &[u8], file: &[u8], table: &mut [u32], list: &mut [u16]) {
+fn answer(
+    out: &mut impl Write,
+    line: &[u8],
+    file: &[u8],
+    table: &mut [u32],
+    list: &mut [u16],
+) -> io::Result<()> {
     make_table(line, file, table);
     let handed = script::number(script::word(line, 2));
     let slot = script::number(script::word(line, 3));
@@ -71,50 +86,86 @@ fn answer(line: &[u8], file: &[u8], table: &mut [u32], list: &mut [u16]) {
             if room <= list.len() as u64 {
                 let h = handed as usize;
                 let r = room as usize;
-                ask(file, &table[..h], slot as u32, &mut list[..r]);
+                ask(out, file, &table[..h], slot as u32, &mut list[..r])?;
             }
         }
     }
+    Ok(())
 }
 
 // The file that a line says, in `space`; how many bytes it has.
-fn take_file(line: &[u8], space: &mut [u8]) -> usize
-    ensures { (result ≤ length space.new) × (result ≡ length (take result space.new)) }
+fn take_file(files: &impl Files, line: &[u8], space: &mut [u8]) -> io::Result<usize>
+    ensures { IfOk result (λ n. (n ≤ length space.new) × (n ≡ length (take n space.new))) }
 {
     if script::is(script::word(line, 0), b"file") {
-        return script::read_file(script::word(line, 1), space);
+        return script::read_file(files, script::word(line, 1), space);
     }
-    script::bytes(script::word(line, 1), space)
+    Ok(script::bytes(script::word(line, 1), space))
 }
 
-fn respond(line: &[u8], space: &mut [u8], table: &mut [u32], list: &mut [u16]) {
-    script::print(line);
+fn respond(
+    files: &impl Files,
+    out: &mut impl Write,
+    line: &[u8],
+    space: &mut [u8],
+    table: &mut [u32],
+    list: &mut [u16],
+) -> io::Result<()> {
+    script::print(out, line)?;
     if script::is_asked(line) {
-        script::print(b" -> ");
-        let n = take_file(line, space);
-        answer(line, &space[..n], table, list);
+        script::print(out, b" -> ")?;
+        let n = take_file(files, line, space)?;
+        answer(out, line, &space[..n], table, list)?;
     } else {
-        script::print(b"\n");
+        script::print(out, b"\n")?;
     }
+    Ok(())
 }
 
-fn respond_to_all(input: &[u8], space: &mut [u8], table: &mut [u32], list: &mut [u16]) {
+fn respond_to_all(
+    files: &impl Files,
+    out: &mut impl Write,
+    input: &[u8],
+    space: &mut [u8],
+    table: &mut [u32],
+    list: &mut [u16],
+) -> io::Result<()> {
     let mut at = 0;
     while at < input.len() {
-        respond(script::line(input, at), space, table, list);
+        respond(files, out, script::line(input, at), space, table, list)?;
         at = script::next_line(input, at);
     }
+    Ok(())
 }
 
-fn run(input: &mut [u8], space: &mut [u8], table: &mut [u32], list: &mut [u16]) {
-    let n = io::read_full(0, input);
-    respond_to_all(&input[..n], space, table, list);
+fn run(
+    files: &impl Files,
+    from: impl Read + Drop,
+    out: &mut impl Write,
+    input: &mut [u8],
+    space: &mut [u8],
+    table: &mut [u32],
+    list: &mut [u16],
+) -> io::Result<()> {
+    let n = script::read_full(from, input)?;
+    respond_to_all(files, out, &input[..n], space, table, list)
 }
 
-fn main() {
+fn main(rt: HostRuntime) -> io::Result<()> {
     let mut input = script::space();
-    let mut space = io::large_buffer();
+    let mut space = script::large_buffer();
     let mut table = script::cells();
     let mut list = [0u16; 1024];
-    run(&mut input, &mut space, &mut table, &mut list);
+    let mut out = BufWriter::new(rt.alloc(), io::writer(&rt))?;
+    let done = run(
+        &rt,
+        rt.reader(),
+        &mut out,
+        &mut input,
+        &mut space,
+        &mut table,
+        &mut list,
+    );
+    out.flush()?;
+    done
 }

@@ -4,6 +4,8 @@
 ghost use Rattle.std.specs.Prelude.{◌≡◌, ◌≤◌, length, take};
 
 use pool::PoolAnswer;
+use std::io;
+use std::io::{BufWriter, Read, Write};
 
 // The number that a word says, at most `most`.
 fn up_to(most: usize, word: &[u8]) -> usize
@@ -30,32 +32,33 @@ fn is_used(cell: u32) -> usize
     if cell == 0 { 0 } else { 1 }
 }
 
-fn print_answer(answer: PoolAnswer) {
+fn print_answer(out: &mut impl Write, answer: PoolAnswer) -> io::Result<()> {
     match answer {
         PoolAnswer::Refused(r) => {
-            script::print_number(r.number as u64);
-            script::print(b" at ");
-            script::print_number(r.place as u64);
+            script::print_number(out, r.number as u64)?;
+            script::print(out, b" at ")?;
+            script::print_number(out, r.place as u64)
         }
         PoolAnswer::Accepted(h) => {
-            script::print(b"P ");
-            script::print_number(h.slots as u64);
-            script::print(b", version ");
-            script::print_number(h.major as u64);
-            script::print(b".");
-            script::print_number(h.minor as u64);
-            script::print(b", then byte ");
-            script::print_number(h.next as u64);
+            script::print(out, b"P ")?;
+            script::print_number(out, h.slots as u64)?;
+            script::print(out, b", version ")?;
+            script::print_number(out, h.major as u64)?;
+            script::print(out, b".")?;
+            script::print_number(out, h.minor as u64)?;
+            script::print(out, b", then byte ")?;
+            script::print_number(out, h.next as u64)
         }
     }
 }
 
 // The last two cells.
-fn print_last(table: &[u32]) {
+fn print_last(out: &mut impl Write, table: &[u32]) -> io::Result<()> {
     if 1 < table.len() {
         let last = table.len() - 2;
-        script::print_cells(&table[last..]);
+        script::print_cells(out, &table[last..])?;
     }
+    Ok(())
 }
 
 // How many cells are not 0.
@@ -72,35 +75,35 @@ fn used(table: &[u32]) -> usize
 }
 
 // `read CELLS FILE`: the answer and the table.
-fn read(file: &[u8], table: &mut [u32]) {
-    print_answer(checks::read_pool(file, table));
-    script::print(b" |");
-    script::print_cells(table);
-    script::print(b"\n");
+fn read(out: &mut impl Write, file: &[u8], table: &mut [u32]) -> io::Result<()> {
+    print_answer(out, checks::read_pool(file, table))?;
+    script::print(out, b" |")?;
+    script::print_cells(out, table)?;
+    script::print(out, b"\n")
 }
 
 // `cuts CELLS FILE`: the answer for each beginning of the file that is shorter than it, and how many cells it leaves that are not 0.
-fn cuts(file: &[u8], table: &mut [u32]) {
+fn cuts(out: &mut impl Write, file: &[u8], table: &mut [u32]) -> io::Result<()> {
     let mut n = 0;
     while n < file.len() {
-        print_answer(checks::read_pool(reads::part(file, 0, n), table));
-        script::print(b" |");
-        script::print_number(used(table) as u64);
-        script::print(b"; ");
+        print_answer(out, checks::read_pool(reads::part(file, 0, n), table))?;
+        script::print(out, b" |")?;
+        script::print_number(out, used(table) as u64)?;
+        script::print(out, b"; ")?;
         n += 1;
     }
-    script::print(b"\n");
+    script::print(out, b"\n")
 }
 
 // `fill CELLS START ENTRY TIMES END`: the answer for START, ENTRY so many times, and END; how many cells are then not 0, and the
 // last cells.
-fn fill(file: &[u8], table: &mut [u32]) {
-    print_answer(checks::read_pool(file, table));
-    script::print(b" | ");
-    script::print_number(used(table) as u64);
-    script::print(b" ..");
-    print_last(table);
-    script::print(b"\n");
+fn fill(out: &mut impl Write, file: &[u8], table: &mut [u32]) -> io::Result<()> {
+    print_answer(out, checks::read_pool(file, table))?;
+    script::print(out, b" | ")?;
+    script::print_number(out, used(table) as u64)?;
+    script::print(out, b" ..")?;
+    print_last(out, table)?;
+    script::print(out, b"\n")
 }
 
 // The bytes that a word says, put at a place; the place after them.
@@ -136,64 +139,106 @@ fn build(line: &[u8], space: &mut [u8]) -> usize
     append(script::word(line, 5), space, b)
 }
 
-fn answer_fill(line: &[u8], space: &mut [u8], cells: &mut [u32]) {
+fn answer_fill(
+    out: &mut impl Write,
+    line: &[u8],
+    space: &mut [u8],
+    cells: &mut [u32],
+) -> io::Result<()> {
     let n = build(line, space);
     let room = lent(cells, script::word(line, 1));
-    fill(&space[..n], &mut cells[..room]);
+    fill(out, &space[..n], &mut cells[..room])
 }
 
-fn answer_read(line: &[u8], space: &mut [u8], cells: &mut [u32]) {
+fn answer_read(
+    out: &mut impl Write,
+    line: &[u8],
+    space: &mut [u8],
+    cells: &mut [u32],
+) -> io::Result<()> {
     let n = script::bytes(script::word(line, 2), space);
     let room = lent(cells, script::word(line, 1));
-    read(&space[..n], &mut cells[..room]);
+    read(out, &space[..n], &mut cells[..room])
 }
 
-fn answer_cuts(line: &[u8], space: &mut [u8], cells: &mut [u32]) {
+fn answer_cuts(
+    out: &mut impl Write,
+    line: &[u8],
+    space: &mut [u8],
+    cells: &mut [u32],
+) -> io::Result<()> {
     let n = script::bytes(script::word(line, 2), space);
     let room = lent(cells, script::word(line, 1));
-    cuts(&space[..n], &mut cells[..room]);
+    cuts(out, &space[..n], &mut cells[..room])
 }
 
 // Answers a line. `space` takes the file, `cells` is lent.
-fn answer(line: &[u8], space: &mut [u8], cells: &mut [u32]) {
+fn answer(
+    out: &mut impl Write,
+    line: &[u8],
+    space: &mut [u8],
+    cells: &mut [u32],
+) -> io::Result<()> {
     if script::is(script::word(line, 0), b"fill") {
-        answer_fill(line, space, cells);
+        answer_fill(out, line, space, cells)?;
     } else {
         if script::is(script::word(line, 0), b"cuts") {
-            answer_cuts(line, space, cells);
+            answer_cuts(out, line, space, cells)?;
         } else {
-            answer_read(line, space, cells);
+            answer_read(out, line, space, cells)?;
         }
     }
+    Ok(())
 }
 
 // Writes a line, and the answer where it asks for one.
-fn respond(line: &[u8], space: &mut [u8], cells: &mut [u32]) {
-    script::print(line);
+fn respond(
+    out: &mut impl Write,
+    line: &[u8],
+    space: &mut [u8],
+    cells: &mut [u32],
+) -> io::Result<()> {
+    script::print(out, line)?;
     if script::is_asked(line) {
-        script::print(b" -> ");
-        answer(line, space, cells);
+        script::print(out, b" -> ")?;
+        answer(out, line, space, cells)?;
     } else {
-        script::print(b"\n");
+        script::print(out, b"\n")?;
     }
+    Ok(())
 }
 
-fn respond_to_all(input: &[u8], space: &mut [u8], cells: &mut [u32]) {
+fn respond_to_all(
+    out: &mut impl Write,
+    input: &[u8],
+    space: &mut [u8],
+    cells: &mut [u32],
+) -> io::Result<()> {
     let mut at = 0;
     while at < input.len() {
-        respond(script::line(input, at), space, cells);
+        respond(out, script::line(input, at), space, cells)?;
         at = script::next_line(input, at);
     }
+    Ok(())
 }
 
-fn run(input: &mut [u8], space: &mut [u8], cells: &mut [u32]) {
-    let n = io::read_full(0, input);
-    respond_to_all(&input[..n], space, cells);
+fn run(
+    from: impl Read + Drop,
+    out: &mut impl Write,
+    input: &mut [u8],
+    space: &mut [u8],
+    cells: &mut [u32],
+) -> io::Result<()> {
+    let n = script::read_full(from, input)?;
+    respond_to_all(out, &input[..n], space, cells)
 }
 
-fn main() {
+fn main(rt: HostRuntime) -> io::Result<()> {
     let mut input = script::space();
     let mut space = script::space();
     let mut cells = script::cells();
-    run(&mut input, &mut space, &mut cells);
+    let mut out = BufWriter::new(rt.alloc(), io::writer(&rt))?;
+    let done = run(rt.reader(), &mut out, &mut input, &mut space, &mut cells);
+    out.flush()?;
+    done
 }

@@ -7,7 +7,7 @@ use mathlib.Core.List.{List, [], ◌∷◌}
 use mathlib.Core.Bool.{Bool, true, false, cond, not}
 use lib.ListN.{length, take, drop, get_or, set, replicate, length-replicate, length-set, length-drop, length-take, drop_of_length-le}
 use lib.Seq.{drop-cons, take_all}
-use lib.Dec.{leb, ltb, eqb}
+use lib.Dec.{ltb, eqb}
 use borrow.Author.Tests.{lt-ltb, le-ltb, le-leb, lt-leb}
 use Rattle.script.specs.Script.{until, past, asked, word_from, digit, joined, filled, decimal_on}
 

@@ -1,5 +1,5 @@
 -- The code's own notion: a script's lines, words, numbers and byte strings. Assumes nothing.
-use Rattle.std.specs.Prelude.{ℕ, zero, suc, ◌+◌, ◌*◌, ◌-◌, List, [], ◌∷◌, Bool, true, false, cond, not, length, take, drop, get_or, set, leb, ltb, eqb}
+use Rattle.std.specs.Prelude.{ℕ, zero, suc, ◌+◌, ◌*◌, ◌-◌, List, [], ◌∷◌, Bool, false, cond, not, length, take, drop, set, leb, ltb, eqb}
 
 -- how many bytes stand before the first mark; all, where there is none
 unfoldable pub until : ℕ → List ℕ → ℕ

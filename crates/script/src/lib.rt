@@ -2,8 +2,12 @@
 // then decimal numbers or byte strings in hexadecimal, `-` for an empty one. The answer is written behind the line.
 #![tactic(auto)]
 
-ghost use Rattle.std.specs.Prelude.{◌≡◌, ◌+◌, ◌-◌, ◌≤◌, ◌<◌, true, length, take, drop};
+ghost use Rattle.std.specs.Prelude.{◌≡◌, ◌+◌, ◌-◌, ◌≤◌, ◌<◌, true, length, take, drop, IfOk};
 ghost use Rattle.script.specs.Script.{until, line_at, past, word_from, word_at, asked, digit, joined, filled, decimal};
+
+use std::io::{Read, Write};
+use std::rt::Files;
+use std::{fs, io, str};
 
 // How many bytes stand before the first mark; all, where there is none.
 fn length_to(s: &[u8], mark: u8) -> usize
@@ -176,80 +180,101 @@ pub fn number(word: &[u8]) -> u64
     n
 }
 
-// Writes bytes to standard output.
-pub fn print(bytes: &[u8]) {
-    io::write_all(1, bytes);
+// Writes bytes to `out`, which is standard output in the programs.
+pub fn print(out: &mut impl Write, bytes: &[u8]) -> io::Result<()> {
+    out.write_all(bytes)
 }
 
 // Writes a number in decimal.
-pub fn print_number(n: u64) {
-    io::print_decimal(1, n);
+pub fn print_number(out: &mut impl Write, n: u64) -> io::Result<()> {
+    write!(out, "{n}")
 }
 
 // Writes a number behind a space.
-pub fn print_field(n: u64) {
-    print(b" ");
-    print_number(n);
+pub fn print_field(out: &mut impl Write, n: u64) -> io::Result<()> {
+    print(out, b" ")?;
+    print_number(out, n)
 }
 
-fn print_cell(n: u32) {
-    print_field(n as u64);
+fn print_cell(out: &mut impl Write, n: u32) -> io::Result<()> {
+    print_field(out, n as u64)
 }
 
-fn print_slot(n: u16) {
-    print_field(n as u64);
+fn print_slot(out: &mut impl Write, n: u16) -> io::Result<()> {
+    print_field(out, n as u64)
 }
 
 // Writes the cells of a table so.
-pub fn print_cells(table: &[u32]) {
+pub fn print_cells(out: &mut impl Write, table: &[u32]) -> io::Result<()> {
     let mut i = 0;
     while i < table.len() {
-        print_cell(table[i]);
+        print_cell(out, table[i])?;
         i += 1;
     }
+    Ok(())
 }
 
 // And those of a list.
-pub fn print_list(list: &[u16]) {
+pub fn print_list(out: &mut impl Write, list: &[u16]) -> io::Result<()> {
     let mut i = 0;
     while i < list.len() {
-        print_slot(list[i]);
+        print_slot(out, list[i])?;
         i += 1;
     }
+    Ok(())
 }
 
 // Writes `yes` or `no`.
-pub fn print_verdict(holds: bool) {
+pub fn print_verdict(out: &mut impl Write, holds: bool) -> io::Result<()> {
     if holds {
-        io::write_all(1, b"yes");
+        print(out, b"yes")
     } else {
-        io::write_all(1, b"no");
+        print(out, b"no")
     }
 }
 
 // Writes bytes in hexadecimal, `-` where there are none.
-pub fn print_bytes(bytes: &[u8]) {
+pub fn print_bytes(out: &mut impl Write, bytes: &[u8]) -> io::Result<()> {
     if bytes.len() == 0 {
-        io::write_all(1, b"-");
+        print(out, b"-")?;
     }
     let mut i = 0;
     while i < bytes.len() {
-        io::print_hex(1, bytes[i] as u64, 2);
+        let b = bytes[i];
+        write!(out, "{b:02x}")?;
         i += 1;
     }
+    Ok(())
 }
 
-// Reads a file by its name into `out`, as much as it has room for; how many bytes. A file that cannot be opened has none.
-pub fn read_file(name: &[u8], out: &mut [u8]) -> usize
-    ensures { (result ≤ length out.new) × (result ≡ length (take result out.new)) }
+// Reads into `out` until it is full or the input ends; how many bytes. An error of the reader is passed on.
+pub fn read_full(mut from: impl Read + Drop, out: &mut [u8]) -> io::Result<usize>
+    ensures { IfOk result (λ n. (n ≤ length out.new) × (n ≡ length (take n out.new))) }
 {
-    let fd = os::open_read(name);
-    if fd < 0 {
-        return 0;
+    let mut n = 0;
+    while n < out.len() {
+        let more = from.read(&mut out[n..])?;
+        if more == 0 {
+            return Ok(n);
+        }
+        n += more;
     }
-    let n = io::read_full(fd, out);
-    libc::close(fd);
-    n
+    Ok(n)
+}
+
+// Reads a file by its name into `out`, as much as it has room for; how many bytes. A file that cannot be opened has none. An error
+// of a read is passed on.
+pub fn read_file(files: &impl Files, name: &[u8], out: &mut [u8]) -> io::Result<usize>
+    ensures { IfOk result (λ n. (n ≤ length out.new) × (n ≡ length (take n out.new))) }
+{
+    let path = match str::from_utf8(name) {
+        Ok(path) => path,
+        Err(_) => return Ok(0),
+    };
+    match fs::open(files, path) {
+        Ok(file) => read_full(file, out),
+        Err(_) => Ok(0),
+    }
 }
 
 // Two million bytes and more, for a script and for the files of its data.
@@ -257,6 +282,13 @@ pub fn space() -> [u8; 2097152]
     ensures { 2097152 ≡ length result }
 {
     [0; 2097152]
+}
+
+// 65,536 bytes, for what one line says.
+pub fn large_buffer() -> [u8; 65536]
+    ensures { 65536 ≡ length result }
+{
+    [0; 65536]
 }
 
 // Cells for every slot of a pool.

@@ -3,6 +3,9 @@
 
 ghost use Rattle.std.specs.Prelude.{◌≡◌, ◌+◌, ◌≤◌, length};
 
+use std::io;
+use std::io::{BufWriter, Read, Write};
+
 // The verdict of a name's rule.
 fn name_verdict(command: &[u8], s: &[u8]) -> bool {
     if script::is(command, b"unqualified") {
@@ -53,13 +56,13 @@ fn verdict(command: &[u8], s: &[u8]) -> bool {
 }
 
 // Answers a command on bytes: how many of them are text, or the verdict.
-fn answer(command: &[u8], s: &[u8]) {
+fn answer(out: &mut impl Write, command: &[u8], s: &[u8]) -> io::Result<()> {
     if script::is(command, b"text_length") {
-        script::print_number(text::text_length(s) as u64);
+        script::print_number(out, text::text_length(s) as u64)?;
     } else {
-        script::print_verdict(verdict(command, s));
+        script::print_verdict(out, verdict(command, s))?;
     }
-    script::print(b"\n");
+    script::print(out, b"\n")
 }
 
 // Puts a `[` into each of the first n bytes, or into all where there are fewer; how many it put there.
@@ -80,51 +83,60 @@ fn put_brackets(space: &mut [u8], n: u64) -> usize
 }
 
 // A command, a number, and the bytes that follow as many `[`.
-fn answer_deep(line: &[u8], space: &mut [u8]) {
+fn answer_deep(out: &mut impl Write, line: &[u8], space: &mut [u8]) -> io::Result<()> {
     let n = put_brackets(space, script::number(script::word(line, 1)));
     let m = script::bytes(script::word(line, 2), &mut space[n..]);
     let end = n + m;
-    answer(script::word(line, 0), &space[0..end]);
+    answer(out, script::word(line, 0), &space[0..end])
 }
 
 // A command and its bytes; or a command, a number, and the bytes that follow as many `[`.
-fn answer_line(line: &[u8], space: &mut [u8]) {
+fn answer_line(out: &mut impl Write, line: &[u8], space: &mut [u8]) -> io::Result<()> {
     if script::word(line, 2).len() != 0 {
-        answer_deep(line, space);
-        return;
+        return answer_deep(out, line, space);
     }
     let n = script::bytes(script::word(line, 1), space);
-    answer(script::word(line, 0), &space[..n]);
+    answer(out, script::word(line, 0), &space[..n])
 }
 
 // Writes a line, and the answer where it asks for one.
-fn respond(line: &[u8], space: &mut [u8]) {
-    script::print(line);
+fn respond(out: &mut impl Write, line: &[u8], space: &mut [u8]) -> io::Result<()> {
+    script::print(out, line)?;
     if script::is_asked(line) {
-        script::print(b" -> ");
-        answer_line(line, space);
+        script::print(out, b" -> ")?;
+        answer_line(out, line, space)?;
     } else {
-        script::print(b"\n");
+        script::print(out, b"\n")?;
     }
+    Ok(())
 }
 
 // Answers a script, line by line.
-fn respond_to_all(input: &[u8], space: &mut [u8]) {
+fn respond_to_all(out: &mut impl Write, input: &[u8], space: &mut [u8]) -> io::Result<()> {
     let mut at = 0;
     while at < input.len() {
-        respond(script::line(input, at), space);
+        respond(out, script::line(input, at), space)?;
         at = script::next_line(input, at);
     }
+    Ok(())
 }
 
 // Reads the script from standard input.
-fn run(input: &mut [u8], space: &mut [u8]) {
-    let n = io::read_full(0, input);
-    respond_to_all(&input[..n], space);
+fn run(
+    from: impl Read + Drop,
+    out: &mut impl Write,
+    input: &mut [u8],
+    space: &mut [u8],
+) -> io::Result<()> {
+    let n = script::read_full(from, input)?;
+    respond_to_all(out, &input[..n], space)
 }
 
-fn main() {
+fn main(rt: HostRuntime) -> io::Result<()> {
     let mut input = script::space();
-    let mut space = io::large_buffer();
-    run(&mut input, &mut space);
+    let mut space = script::large_buffer();
+    let mut out = BufWriter::new(rt.alloc(), io::writer(&rt))?;
+    let done = run(rt.reader(), &mut out, &mut input, &mut space);
+    out.flush()?;
+    done
 }

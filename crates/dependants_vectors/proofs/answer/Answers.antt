@@ -4,7 +4,7 @@ use lib.ListN.{length-take}
 use Rattle.dependants_vectors.proofs.answer.Goals as goal
 
 pub slice_bounds-ask-end-then-room-list : goal.slice_bounds-ask-end-then-room-list
-slice_bounds-ask-end-then-room-list c = simp length-take (omega arith)
+slice_bounds-ask-end-then-room-list g c = simp length-take (omega arith)
 
 pub slice_bounds-ask-end-then-room-list-3 : goal.slice_bounds-ask-end-then-room-list-3
-slice_bounds-ask-end-then-room-list-3 c = simp length-take (omega arith)
+slice_bounds-ask-end-then-room-list-3 g c = simp length-take (omega arith)

@@ -1,7 +1,6 @@
 -- `lookup_vectors::fill` meets its contract. Assumes nothing.
 use native.Mathlib.Omega.{arith}
 use mathlib.Core.Path.{refl, sym}
-use Prim.Native.Nat.{◌-◌}
 use lib.ListN.{length-set}
 use lib.Seq.{length-take-le}
 use Rattle.lookup_vectors.proofs.fill.Goals as goal

@@ -5,7 +5,7 @@ use lib.ListN.{length}
 use Rattle.lookup_vectors.proofs.respond_to_all.Given as goal
 
 abbrev pub invariant-loop-at : goal.invariant-loop-at
-invariant-loop-at l = (length l.space ≡ length l.initial.space) × (length l.table ≡ length l.initial.table)
+invariant-loop-at g l = (length l.space ≡ length l.initial.space) × (length l.table ≡ length l.initial.table)
 
 abbrev pub decreases-loop-at : goal.decreases-loop-at
-decreases-loop-at l = length l.input - l.at
+decreases-loop-at g l = length l.input - l.at

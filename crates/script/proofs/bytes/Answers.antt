@@ -1,5 +1,4 @@
 -- `script::bytes` meets its contract. The loop's invariant: what is left to fill gives what the whole word gives. Assumes nothing.
-use Prim.Native.Nat.{◌-◌}
 use native.Mathlib.Omega.{arith}
 use mathlib.Core.Path.{refl}
 use Rattle.script.proofs.Scripts.{cut_short, full, no_pair, turn}

@@ -1,5 +1,4 @@
 -- `script::length_to` meets its contract. Assumes nothing.
-use Prim.Native.Nat.{◌-◌}
 use native.Mathlib.Nat.{zero-add}
 use native.Mathlib.Omega.{arith}
 use borrow.Author.Tests.{eq-eqb, ne_eqb}

@@ -1,5 +1,4 @@
 -- `text_vectors::put_brackets` meets its contract. Assumes nothing.
-use Prim.Native.Nat.{◌-◌}
 use native.Mathlib.Omega.{arith}
 use lib.ListN.{length-set}
 use Rattle.text_vectors.proofs.put_brackets.Goals as goal
