@@ -125,19 +125,21 @@ fn programs_of(name: &str) -> &'static [&'static str] {
 
 /// Whether a program writes what is expected when it is compiled without a proof.
 fn replays(code: &Path, program: &str) -> bool {
-    let at = code.join("crates").join(program);
-    // The compiled run answers: the interpreter beside it is let off after a few steps.
-    let mut words: Vec<String> = ["try", "--steps", "1000"].map(String::from).to_vec();
-    // Files that lie where the program runs.
-    if let Ok(list) = std::fs::read_dir(at.join("data")) {
+    let folder = code.join("crates").join(program);
+    let given = std::fs::File::open(folder.join("stdin")).expect("its vectors");
+    // Only the compiled run gives an answer to so many vectors, and with its checks large buffers need more stack than is usual.
+    let mut try_it = "ulimit -s unlimited 2>/dev/null; exec rt try --steps 1".to_string();
+    // Files that its vectors name.
+    if let Ok(list) = std::fs::read_dir(folder.join("data")) {
         let names = list.filter_map(|e| e.ok()).map(|e| e.file_name().to_string_lossy().to_string());
-        words.extend(names.flat_map(|name| ["--data".to_string(), format!("{name}=data/{name}")]));
+        names.for_each(|name| try_it += &format!(" --data {name}=data/{name}"));
     }
-    let input = std::fs::File::open(at.join("stdin")).expect("stdin");
-    let ran = Command::new("rt").args(&words).current_dir(&at).stdin(input).output().expect("rt");
-    let said = String::from_utf8_lossy(&ran.stderr).to_string();
-    assert!(said.contains("\nrun=") && !said.contains("\nrun=none"), "rt try {program}: {said}");
-    ran.status.success() && ran.stdout == std::fs::read(at.join("stdout")).expect("stdout")
+    let ran = Command::new("sh").args(["-c", &try_it]).stdin(given).current_dir(&folder).output().expect("rt");
+    let said = String::from_utf8_lossy(&ran.stderr);
+    let ended = said.contains("\nrun=ended status=");
+    // 4: a fault; 6: no end within its time.
+    assert!(ended || matches!(ran.status.code(), Some(4 | 6)), "rt try of {program}: {said}");
+    ended && ran.status.success() && ran.stdout == std::fs::read(folder.join("stdout")).expect("their answers")
 }
 
 /// Edits of the code, in the folder `code` that has a copy of crates/ with the fixed list.
@@ -162,20 +164,18 @@ pub fn code(code: &str, only: &str) -> bool {
         let mut file = "";
         let (mut olds, mut news): (Vec<&str>, Vec<&str>) = (vec![], vec![]);
         for line in text.lines() {
-            if let Some(path) = line.strip_prefix("file: ") {
-                file = path;
+            file = line.strip_prefix("file: ").unwrap_or(file);
+            // Pairs of a definition change nothing that the code does; those of a proof bring its answers to a goal's new name.
+            if file == "src/lib.rt" {
+                olds.extend(line.strip_prefix("old: "));
+                news.extend(line.strip_prefix("new: "));
             }
-            // Pairs of a proof only bring its answers to a goal's new name.
-            if file != "src/lib.rt" {
-                continue;
-            }
-            olds.extend(line.strip_prefix("old: "));
-            news.extend(line.strip_prefix("new: "));
         }
         assert!(olds.len() == news.len(), "{}", edit.display());
-        // An edit of a definition or of a contract changes nothing that the code does, and a read past the
-        // end whose byte nothing uses cannot be seen: the proof alone refuses these.
-        if olds.is_empty() || olds.iter().any(|o| o.contains("ensures") || o.contains("ghost") || o.contains("{ s[at] } else { 0 }")) {
+        // Nor does an edit of a contract, and a read past the end whose byte nothing uses cannot be seen: the
+        // proof alone refuses these.
+        let unseen = ["\u{2261}", "ensures", "requires", "ghost", "{ s[at] } else { 0 }"];
+        if olds.is_empty() || olds.iter().any(|o| unseen.iter().any(|it| o.contains(it))) {
             continue;
         }
         for program in &programs {

@@ -6,7 +6,7 @@ ghost use Rattle.std.specs.Prelude.{◌≡◌, ◌≤◌, length, take, IfOk};
 
 use class::{Class, ClassAnswer};
 use std::io;
-use std::io::{BufWriter, Read, Write};
+use std::io::{Read, Write};
 use std::rt::Files;
 
 // A column: its name and its cells.
@@ -135,7 +135,8 @@ fn show_as(out: &mut impl Write, size: &[u8], file: &[u8]) -> io::Result<()> {
 
 // The bytes that a line gives, in hexadecimal or as a file's name: how many they are.
 fn bytes_asked(files: &impl Files, line: &[u8], space: &mut [u8]) -> io::Result<usize>
-    ensures { IfOk result (λ n. (n ≤ length space.new) × (n ≡ length (take n space.new))) }
+    ensures ok { IfOk result (λ n. (n ≤ length space.new) × (n ≡ length (take n space.new))) }
+    ensures left { length space.new ≡ length space.old }
 {
     if script::is(script::word(line, 0), b"file") {
         return script::read_file(files, script::word(line, 2), space);
@@ -196,8 +197,6 @@ fn run(
 fn main(rt: HostRuntime) -> io::Result<()> {
     let mut input = script::space();
     let mut space = script::large_buffer();
-    let mut out = BufWriter::new(rt.alloc(), io::writer(&rt))?;
-    let done = run(&rt, rt.reader(), &mut out, &mut input, &mut space);
-    out.flush()?;
-    done
+    let mut out = io::writer(&rt);
+    run(&rt, rt.reader(), &mut out, &mut input, &mut space)
 }

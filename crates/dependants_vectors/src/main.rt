@@ -7,7 +7,7 @@ ghost use Rattle.std.specs.Prelude.{◌≡◌, ◌≤◌, length, take, IfOk};
 
 use dependants::DependantsAnswer;
 use std::io;
-use std::io::{BufWriter, Read, Write};
+use std::io::{Read, Write};
 use std::rt::Files;
 
 fn print_answer(out: &mut impl Write, answer: DependantsAnswer) -> io::Result<()> {
@@ -95,7 +95,8 @@ fn answer(
 
 // The file that a line says, in `space`; how many bytes it has.
 fn take_file(files: &impl Files, line: &[u8], space: &mut [u8]) -> io::Result<usize>
-    ensures { IfOk result (λ n. (n ≤ length space.new) × (n ≡ length (take n space.new))) }
+    ensures ok { IfOk result (λ n. (n ≤ length space.new) × (n ≡ length (take n space.new))) }
+    ensures left { length space.new ≡ length space.old }
 {
     if script::is(script::word(line, 0), b"file") {
         return script::read_file(files, script::word(line, 1), space);
@@ -156,8 +157,8 @@ fn main(rt: HostRuntime) -> io::Result<()> {
     let mut space = script::large_buffer();
     let mut table = script::cells();
     let mut list = [0u16; 1024];
-    let mut out = BufWriter::new(rt.alloc(), io::writer(&rt))?;
-    let done = run(
+    let mut out = io::writer(&rt);
+    run(
         &rt,
         rt.reader(),
         &mut out,
@@ -165,7 +166,5 @@ fn main(rt: HostRuntime) -> io::Result<()> {
         &mut space,
         &mut table,
         &mut list,
-    );
-    out.flush()?;
-    done
+    )
 }

@@ -7,7 +7,7 @@ use literal::LiteralAnswer;
 use lookups::{HeldAnswer, IndexedAnswer, Member, MemberAnswer, Named, NamedAnswer};
 use reads::{Num2, Num4, Refusal};
 use std::io;
-use std::io::{BufWriter, Read, Write};
+use std::io::{Read, Write};
 use values::TextAnswer;
 
 // The cells that bytes are, into a table; how many.
@@ -292,8 +292,6 @@ fn main(rt: HostRuntime) -> io::Result<()> {
     let mut input = script::space();
     let mut space = script::large_buffer();
     let mut table = script::cells();
-    let mut out = BufWriter::new(rt.alloc(), io::writer(&rt))?;
-    let done = run(rt.reader(), &mut out, &mut input, &mut space, &mut table);
-    out.flush()?;
-    done
+    let mut out = io::writer(&rt);
+    run(rt.reader(), &mut out, &mut input, &mut space, &mut table)
 }

@@ -5,7 +5,7 @@ ghost use Rattle.std.specs.Prelude.{◌≡◌, ◌≤◌, length, take};
 
 use pool::PoolAnswer;
 use std::io;
-use std::io::{BufWriter, Read, Write};
+use std::io::{Read, Write};
 
 // The number that a word says, at most `most`.
 fn up_to(most: usize, word: &[u8]) -> usize
@@ -237,8 +237,6 @@ fn main(rt: HostRuntime) -> io::Result<()> {
     let mut input = script::space();
     let mut space = script::space();
     let mut cells = script::cells();
-    let mut out = BufWriter::new(rt.alloc(), io::writer(&rt))?;
-    let done = run(rt.reader(), &mut out, &mut input, &mut space, &mut cells);
-    out.flush()?;
-    done
+    let mut out = io::writer(&rt);
+    run(rt.reader(), &mut out, &mut input, &mut space, &mut cells)
 }

@@ -180,7 +180,8 @@ pub fn number(word: &[u8]) -> u64
     n
 }
 
-// Writes bytes to `out`, which is standard output in the programs.
+// Writes bytes to `out`, which is standard output in the programs. Here and in all that print, an error of a write is passed on, and
+// what was written before it is out.
 pub fn print(out: &mut impl Write, bytes: &[u8]) -> io::Result<()> {
     out.write_all(bytes)
 }
@@ -247,9 +248,11 @@ pub fn print_bytes(out: &mut impl Write, bytes: &[u8]) -> io::Result<()> {
     Ok(())
 }
 
-// Reads into `out` until it is full or the input ends; how many bytes. An error of the reader is passed on.
+// Reads into `out` until it is full or the input ends; how many bytes. An error of the reader is passed on,
+// and what was read before it stands in `out`.
 pub fn read_full(mut from: impl Read + Drop, out: &mut [u8]) -> io::Result<usize>
-    ensures { IfOk result (λ n. (n ≤ length out.new) × (n ≡ length (take n out.new))) }
+    ensures ok { IfOk result (λ n. (n ≤ length out.new) × (n ≡ length (take n out.new))) }
+    ensures left { length out.new ≡ length out.old }
 {
     let mut n = 0;
     while n < out.len() {
@@ -263,9 +266,10 @@ pub fn read_full(mut from: impl Read + Drop, out: &mut [u8]) -> io::Result<usize
 }
 
 // Reads a file by its name into `out`, as much as it has room for; how many bytes. A file that cannot be opened has none. An error
-// of a read is passed on.
+// of a read is passed on, and what was read before it stands in `out`.
 pub fn read_file(files: &impl Files, name: &[u8], out: &mut [u8]) -> io::Result<usize>
-    ensures { IfOk result (λ n. (n ≤ length out.new) × (n ≡ length (take n out.new))) }
+    ensures ok { IfOk result (λ n. (n ≤ length out.new) × (n ≡ length (take n out.new))) }
+    ensures left { length out.new ≡ length out.old }
 {
     let path = match str::from_utf8(name) {
         Ok(path) => path,

@@ -4,7 +4,7 @@
 ghost use Rattle.std.specs.Prelude.{◌≡◌, ◌+◌, ◌≤◌, length};
 
 use std::io;
-use std::io::{BufWriter, Read, Write};
+use std::io::{Read, Write};
 
 // The verdict of a name's rule.
 fn name_verdict(command: &[u8], s: &[u8]) -> bool {
@@ -135,8 +135,6 @@ fn run(
 fn main(rt: HostRuntime) -> io::Result<()> {
     let mut input = script::space();
     let mut space = script::large_buffer();
-    let mut out = BufWriter::new(rt.alloc(), io::writer(&rt))?;
-    let done = run(rt.reader(), &mut out, &mut input, &mut space);
-    out.flush()?;
-    done
+    let mut out = io::writer(&rt);
+    run(rt.reader(), &mut out, &mut input, &mut space)
 }
