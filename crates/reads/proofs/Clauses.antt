@@ -9,23 +9,14 @@ answer_tables h = record { answer = h.0; tables = h.1 }
 pub answer_list : {A B : Type 0} → A × B → record { answer : A; list : B }
 answer_list h = record { answer = h.0; list = h.1 }
 
-pub answer_cells : {A B : Type 0} → A × B → record { answer : A; cells : B }
-answer_cells h = record { answer = h.0; cells = h.1 }
-
-pub bytes_place : {A B : Type 0} → A × B → record { bytes : A; place : B }
-bytes_place h = record { bytes = h.0; place = h.1 }
+pub is_table_after : {A B : Type 0} → A × B → record { is : A; table_after : B }
+is_table_after h = record { is = h.0; table_after = h.1 }
 
 pub is_list_after : {A B : Type 0} → A × B → record { is : A; list_after : B }
 is_list_after h = record { is = h.0; list_after = h.1 }
 
 pub number_list : {A B : Type 0} → A × B → record { number : A; list : B }
 number_list h = record { number = h.0; list = h.1 }
-
-pub answer_list_slots : {A B C : Type 0} → A × B × C → record { answer : A; list : B; slots : C }
-answer_list_slots h = record { answer = h.0; list = h.1; slots = h.2 }
-
-pub answer_tables_records : {A B C : Type 0} → A × B × C → record { answer : A; tables : B; records : C }
-answer_tables_records h = record { answer = h.0; tables = h.1; records = h.2 }
 
 pub answer_lists : {A B C D : Type 0} → A × (B × (C × D)) → record { answer : A; tags : B; firsts : C; seconds : D }
 answer_lists h = record { answer = h.0; tags = h.1.0; firsts = h.1.1.0; seconds = h.1.1.1 }

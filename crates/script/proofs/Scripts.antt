@@ -11,6 +11,10 @@ use lib.Dec.{ltb, eqb}
 use borrow.Author.Tests.{lt-ltb, le-ltb, le-leb, lt-leb}
 use Rattle.script.specs.Script.{until, past, asked, word_from, digit, joined, filled, decimal_on}
 
+-- the two clauses of `bytes`, from a law that says both
+pub says_within : {A B : Type 0} → A × B → record { says : A; within : B }
+says_within h = record { says = h.0; within = h.1 }
+
 -- the part of a slice from an index on is what is left when as many are dropped
 pub part : (i : ℕ) (s : List ℕ) → take (length s - i) (drop i s) ≡ drop i s
 part i s = take_all (length s - i) (drop i s) (rw length-drop (omega arith))

@@ -1,17 +1,15 @@
--- `header::read_interfaces` meets its contract. Assumes nothing.
+-- `class_head::read_interfaces` meets its contract. Assumes nothing.
 use native.Mathlib.Omega.{arith}
 use mathlib.Core.Path.{◌∙◌}
 use Rattle.reads.specs.Promise.{reading2}
 use Rattle.reads.proofs.Answers.{got}
 use Rattle.reads.proofs.Leaves.{u2_in}
+use Rattle.reads.proofs.Clauses.{answer_list}
 use Rattle.class_head.proofs.Listing.{interface_in, begin, turn, stopped, finished, no_count, listed, not_listed}
 use Rattle.class_head.proofs.read_interfaces.Goals as goal
 
-pub returns-in-Refused-clause-answer : goal.returns-in-Refused-clause-answer
-returns-in-Refused-clause-answer c = (no_count _ _ _ _ _ _ (got reading2 c.in-Refused.is c.read_u2.ensures) c.clear_list.ensures).0
-
-pub returns-in-Refused-clause-list : goal.returns-in-Refused-clause-list
-returns-in-Refused-clause-list c = (no_count _ _ _ _ _ _ (got reading2 c.in-Refused.is c.read_u2.ensures) c.clear_list.ensures).1
+pub returns-in-Refused : goal.returns-in-Refused
+returns-in-Refused c = answer_list (no_count _ _ _ _ _ _ (got reading2 c.in-Refused.is c.read_u2.ensures) c.clear_list.ensures)
 
 pub overflow_add-at : goal.overflow_add-at
 overflow_add-at c = omega (arith, u2_in _ _ _ (got reading2 c.in-Got.is c.read_u2.ensures))
@@ -22,23 +20,14 @@ loop-left-init c = begin _ _ _ _ _
 pub shape_of-list-in-Refused-interface_at : goal.shape_of-list-in-Refused-interface_at
 shape_of-list-in-Refused-interface_at c = c.clear_list-in-Refused-interface_at.auto.list ∙ c.loop-left.invariant.long ∙ c.clear_list.auto.list
 
-pub returns-in-Refused-interface_at-clause-answer : goal.returns-in-Refused-interface_at-clause-answer
-returns-in-Refused-interface_at-clause-answer c =
+pub returns-in-Refused-interface_at : goal.returns-in-Refused-interface_at
+returns-in-Refused-interface_at c =
     let z = stopped _ _ _ _ _ _ _ _ _ c.loop-left.invariant _
     c.loop-left.invariant.long _ _ c.loop-left-test.true
-    (got reading2 c.in-Refused-interface_at.is c.interface_at.ensures) in (not_listed _ _ _ _ (got reading2 c.in-Got.is
+    (got reading2 c.in-Refused-interface_at.is c.interface_at.ensures) in answer_list (not_listed _ _ _ _ (got reading2 c.in-Got.is
     c.read_u2.ensures) _ _ _ _
     c.clear_list.ensures
-    (record { answer = z.answer; cells = c.clear_list-in-Refused-interface_at.ensures ∙ z.cells })).0
-
-pub returns-in-Refused-interface_at-clause-list : goal.returns-in-Refused-interface_at-clause-list
-returns-in-Refused-interface_at-clause-list c =
-    let z = stopped _ _ _ _ _ _ _ _ _ c.loop-left.invariant _
-    c.loop-left.invariant.long _ _ c.loop-left-test.true
-    (got reading2 c.in-Refused-interface_at.is c.interface_at.ensures) in (not_listed _ _ _ _ (got reading2 c.in-Got.is
-    c.read_u2.ensures) _ _ _ _
-    c.clear_list.ensures
-    (record { answer = z.answer; cells = c.clear_list-in-Refused-interface_at.ensures ∙ z.cells })).1
+    (record { answer = z.answer; cells = c.clear_list-in-Refused-interface_at.ensures ∙ z.cells }))
 
 pub offset_bounds-list-n : goal.offset_bounds-list-n
 offset_bounds-list-n c = omega (arith, interface_in _ _ _ _ _ (got reading2 c.in-Got-interface_at.is c.interface_at.ensures))
@@ -58,8 +47,5 @@ loop-left-preserved c = turn _ _ _ _ _ _ _ _ _ c.loop-left.invariant _ c.loop-le
 pub shape_of-list : goal.shape_of-list
 shape_of-list c = c.loop-left.invariant.long ∙ c.clear_list.auto.list
 
-pub returns-clause-answer : goal.returns-clause-answer
-returns-clause-answer c = (listed _ _ _ _ (got reading2 c.in-Got.is c.read_u2.ensures) _ _ _ c.clear_list.ensures (finished _ _ _ _ _ _ _ _ _ c.loop-left.invariant (omega arith))).0
-
-pub returns-clause-list : goal.returns-clause-list
-returns-clause-list c = (listed _ _ _ _ (got reading2 c.in-Got.is c.read_u2.ensures) _ _ _ c.clear_list.ensures (finished _ _ _ _ _ _ _ _ _ c.loop-left.invariant (omega arith))).1
+pub returns : goal.returns
+returns c = answer_list (listed _ _ _ _ (got reading2 c.in-Got.is c.read_u2.ensures) _ _ _ c.clear_list.ensures (finished _ _ _ _ _ _ _ _ _ c.loop-left.invariant (omega arith)))

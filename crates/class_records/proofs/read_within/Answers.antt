@@ -1,6 +1,7 @@
 -- `class_records::read_within` meets its contract. Assumes nothing.
 use lib.ListN.{length}
 use Rattle.class.specs.Columns.{lent}
+use Rattle.reads.proofs.Clauses.{answer_tables}
 use Rattle.class_records.proofs.Within.{part_long, within}
 use Rattle.class_records.proofs.read_within.Goals as goal
 
@@ -14,12 +15,7 @@ slice_bounds-read_class-end-4 c =
     let a = c.args in
     part_long a.limit _ a.titles.now c.clear_list-2.new.list c.clear_list-2.ensures c.least-framed.ensures
 
-pub returns-clause-answer : goal.returns-clause-answer
-returns-clause-answer c =
-    let a = c.args in (within a.file.now (length a.table.now) (length a.interfaces.now) a.most a.limit _ _ (lent a.flags.now a.names.now a.types.now a.firsts.now a.counts.now a.titles.now a.bodies.now a.lengths.now)
-    c.clear_list.new.list c.clear_list-2.new.list c.clear_list.ensures c.least-room.ensures c.clear_list-2.ensures c.least-framed.ensures _ _ _ _ (c.read_class.ensures.answer, c.read_class.ensures.tables)).0
-
-pub returns-clause-tables : goal.returns-clause-tables
-returns-clause-tables c =
-    let a = c.args in (within a.file.now (length a.table.now) (length a.interfaces.now) a.most a.limit _ _ (lent a.flags.now a.names.now a.types.now a.firsts.now a.counts.now a.titles.now a.bodies.now a.lengths.now)
-    c.clear_list.new.list c.clear_list-2.new.list c.clear_list.ensures c.least-room.ensures c.clear_list-2.ensures c.least-framed.ensures _ _ _ _ (c.read_class.ensures.answer, c.read_class.ensures.tables)).1
+pub returns : goal.returns
+returns c =
+    let a = c.args in answer_tables (within a.file.now (length a.table.now) (length a.interfaces.now) a.most a.limit _ _ (lent a.flags.now a.names.now a.types.now a.firsts.now a.counts.now a.titles.now a.bodies.now a.lengths.now)
+    c.clear_list.new.list c.clear_list-2.new.list c.clear_list.ensures c.least-room.ensures c.clear_list-2.ensures c.least-framed.ensures _ _ _ _ (c.read_class.ensures.answer, c.read_class.ensures.tables))

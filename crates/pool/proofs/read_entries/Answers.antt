@@ -4,6 +4,7 @@ use Prim.Native.Nat.{ℕ}
 use lib.ListN.{replicate}
 use Rattle.reads.proofs.Answers.{got}
 use Rattle.pool.specs.Readings.{reading_header, reading_made}
+use Rattle.reads.proofs.Clauses.{answer_table}
 use Rattle.pool.proofs.Entries.{header_in}
 use Rattle.pool.proofs.Edge.{no_header, filled}
 use Rattle.pool.proofs.read_entries.Goals as goal
@@ -14,32 +15,17 @@ fill-requires c = (
   c.clear.ensures ∙ ap (λ (k : ℕ). replicate k 0) (sym c.clear.auto.table),
 )
 
-pub returns-in-Refused-clause-answer : goal.returns-in-Refused-clause-answer
-returns-in-Refused-clause-answer c = (no_header _ _ _ _ _ (got reading_header c.in-Refused.is c.header_of.ensures) c.clear.ensures).0
+pub returns-in-Refused : goal.returns-in-Refused
+returns-in-Refused c = answer_table (no_header _ _ _ _ _ (got reading_header c.in-Refused.is c.header_of.ensures) c.clear.ensures)
 
-pub returns-in-Refused-clause-table : goal.returns-in-Refused-clause-table
-returns-in-Refused-clause-table c = (no_header _ _ _ _ _ (got reading_header c.in-Refused.is c.header_of.ensures) c.clear.ensures).1
-
-pub returns-in-Refused-fill-clause-answer : goal.returns-in-Refused-fill-clause-answer
-returns-in-Refused-fill-clause-answer c =
-    (filled _ _ _ _ _ _ c.clear.auto.table
+pub returns-in-Refused-fill : goal.returns-in-Refused-fill
+returns-in-Refused-fill c =
+    answer_table (filled _ _ _ _ _ _ c.clear.auto.table
     (got reading_header c.in-Got.is c.header_of.ensures)
-    (got reading_made c.in-Refused-fill.is c.fill.ensures.is, c.fill.ensures.table_after)).0
+    (got reading_made c.in-Refused-fill.is c.fill.ensures.is, c.fill.ensures.table_after))
 
-pub returns-in-Refused-fill-clause-table : goal.returns-in-Refused-fill-clause-table
-returns-in-Refused-fill-clause-table c =
-    (filled _ _ _ _ _ _ c.clear.auto.table
+pub returns-in-Got-fill : goal.returns-in-Got-fill
+returns-in-Got-fill c =
+    answer_table (filled _ _ _ _ _ _ c.clear.auto.table
     (got reading_header c.in-Got.is c.header_of.ensures)
-    (got reading_made c.in-Refused-fill.is c.fill.ensures.is, c.fill.ensures.table_after)).1
-
-pub returns-in-Got-fill-clause-answer : goal.returns-in-Got-fill-clause-answer
-returns-in-Got-fill-clause-answer c =
-    (filled _ _ _ _ _ _ c.clear.auto.table
-    (got reading_header c.in-Got.is c.header_of.ensures)
-    (got reading_made c.in-Got-fill.is c.fill.ensures.is, c.fill.ensures.table_after)).0
-
-pub returns-in-Got-fill-clause-table : goal.returns-in-Got-fill-clause-table
-returns-in-Got-fill-clause-table c =
-    (filled _ _ _ _ _ _ c.clear.auto.table
-    (got reading_header c.in-Got.is c.header_of.ensures)
-    (got reading_made c.in-Got-fill.is c.fill.ensures.is, c.fill.ensures.table_after)).1
+    (got reading_made c.in-Got-fill.is c.fill.ensures.is, c.fill.ensures.table_after))

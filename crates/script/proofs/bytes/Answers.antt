@@ -1,7 +1,7 @@
 -- `script::bytes` meets its contract. The loop's invariant: what is left to fill gives what the whole word gives. Assumes nothing.
 use native.Mathlib.Omega.{arith}
 use mathlib.Core.Path.{refl}
-use Rattle.script.proofs.Scripts.{cut_short, full, no_pair, turn}
+use Rattle.script.proofs.Scripts.{cut_short, full, no_pair, says_within, turn}
 use Rattle.script.proofs.bytes.Goals as goal
 
 pub loop-n-init : goal.loop-n-init
@@ -10,20 +10,14 @@ loop-n-init c = (omega arith, omega arith, refl, refl)
 pub shape_of-out-then-word-i-lt2 : goal.shape_of-out-then-word-i-lt2
 shape_of-out-then-word-i-lt2 c = c.loop-n.invariant.2
 
-pub returns-then-word-i-lt2-clause-says : goal.returns-then-word-i-lt2-clause-says
-returns-then-word-i-lt2-clause-says c = (cut_short _ _ _ _ _ c.loop-n.invariant c.if-word-i-lt2.true).0
-
-pub returns-then-word-i-lt2-clause-within : goal.returns-then-word-i-lt2-clause-within
-returns-then-word-i-lt2-clause-within c = (cut_short _ _ _ _ _ c.loop-n.invariant c.if-word-i-lt2.true).1
+pub returns-then-word-i-lt2 : goal.returns-then-word-i-lt2
+returns-then-word-i-lt2 c = says_within (cut_short _ _ _ _ _ c.loop-n.invariant c.if-word-i-lt2.true)
 
 pub shape_of-out-then-b-gt255 : goal.shape_of-out-then-b-gt255
 shape_of-out-then-b-gt255 c = c.loop-n.invariant.2
 
-pub returns-then-b-gt255-clause-says : goal.returns-then-b-gt255-clause-says
-returns-then-b-gt255-clause-says c = (no_pair _ _ _ _ _ c.loop-n.invariant _ _ _ c.loop-n-test.true c.if-word-i-lt2.false c.join-b.ensures c.digit_of.ensures.0 c.digit_of-in-loop-n.ensures.0 c.if-b-gt255.true).0
-
-pub returns-then-b-gt255-clause-within : goal.returns-then-b-gt255-clause-within
-returns-then-b-gt255-clause-within c = (no_pair _ _ _ _ _ c.loop-n.invariant _ _ _ c.loop-n-test.true c.if-word-i-lt2.false c.join-b.ensures c.digit_of.ensures.0 c.digit_of-in-loop-n.ensures.0 c.if-b-gt255.true).1
+pub returns-then-b-gt255 : goal.returns-then-b-gt255
+returns-then-b-gt255 c = says_within (no_pair _ _ _ _ _ c.loop-n.invariant _ _ _ c.loop-n-test.true c.if-word-i-lt2.false c.join-b.ensures c.digit_of.ensures.0 c.digit_of-in-loop-n.ensures.0 c.if-b-gt255.true)
 
 pub loop-n-preserved : goal.loop-n-preserved
 loop-n-preserved c = turn _ _ _ _ _ c.loop-n.invariant _ _ _ c.loop-n-test.true c.if-word-i-lt2.false c.join-b.ensures c.digit_of.ensures.0 c.digit_of-in-loop-n.ensures.0 c.if-b-gt255.false
@@ -31,8 +25,5 @@ loop-n-preserved c = turn _ _ _ _ _ c.loop-n.invariant _ _ _ c.loop-n-test.true 
 pub shape_of-out : goal.shape_of-out
 shape_of-out c = c.loop-n.invariant.2
 
-pub returns-clause-says : goal.returns-clause-says
-returns-clause-says c = (full _ _ _ _ _ c.loop-n.invariant c.loop-n-test.false).0
-
-pub returns-clause-within : goal.returns-clause-within
-returns-clause-within c = (full _ _ _ _ _ c.loop-n.invariant c.loop-n-test.false).1
+pub returns : goal.returns
+returns c = says_within (full _ _ _ _ _ c.loop-n.invariant c.loop-n-test.false)
