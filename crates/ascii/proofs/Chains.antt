@@ -6,7 +6,7 @@ use native.Mathlib.Numerals.{add-one}
 use mathlib.Core.Path.{◌≡◌, refl, sym, ◌∙◌, ap, subst}
 use mathlib.Core.List.{List, [], ◌∷◌, ◌++◌}
 use mathlib.Core.Bool.{Bool, true, false, cond, not, ◌&&◌, ◌||◌}
-use lib.ListN.{length, take, drop, get_or, length-drop, take-append-drop}
+use lib.ListN.{length, take, drop, get_or, length-drop, take-append-drop, drop_of_length-le}
 use lib.Seq.{take_all, take-add, drop-drop, length-take-le, get_or-take}
 use lib.Dec.{leb, ltb, eqb}
 use borrow.Author.Tests.{eq-eqb, ne_eqb, eqb-true, lt-ltb, leb-true, not-true, not-false}
@@ -87,10 +87,6 @@ module _ (s : List ℕ) (j : ℕ) where
   after : (m : ℕ) → j < length s → pairs (get_or s j 0) (take m (drop (j + 1) s)) ≡ take m (drop (j + 1) (pairs 0x2F s))
   after m h = rw add-one (sym (ap (take m) (drop_pairs j 0x2F s h) ∙ take_pairs m (get_or s j 0) (drop (suc j) s)))
 
-  pub pair_at : j + 1 < length s → linked1 (get_or s j 0) (get_or s (j + 1) 0) ≡ linked (take 1 (drop (j + 1) (pairs 0x2F s)))
-  unfolding pairs
-  pair_at h = linked_one (get_or s j 0) (get_or s (j + 1) 0) ∙ ap linked (ap (λ (l : List ℕ). pairs (get_or s j 0) l) (sym (ap (take 1) (next s (j + 1) (j + 2) (omega arith) h))) ∙ after 1 (omega arith))
-
   fours : (i k : ℕ) → k ≡ i + 4 → take 4 (drop i s) ++ take 4 (drop k s) ≡ take 8 (drop i s)
   fours i k e = sym (take-add 4 4 (drop i s) ∙ ap (λ (l : List ℕ). take 4 (drop i s) ++ take 4 l) (drop-drop 4 i s ∙ ap (λ (n : ℕ). drop n s) (sym e)))
 
@@ -145,8 +141,19 @@ module _ (s : List ℕ) (r : Bool) where
         ∙ ap linked (take_all 8 (drop (k + 1) (pairs 0x2F s)) (rw length-drop (rw (pairs_length 0x2F s) (omega arith))))
         ∙ sym (rest linked linked_join (pairs 0x2F s) (j + 1) (k + 1) g.1 (omega arith))
 
-pub all_linked : (s : List ℕ) (j : ℕ) → Chained s j → length s - j < 2 → true ≡ linked (pairs 0x2F s)
-all_linked s j g h = sym (ap linked (sym (take_all (j + 1) (pairs 0x2F s) (rw (pairs_length 0x2F s) (omega arith)))) ∙ g.1)
+-- the pairs from a place on, p the byte before it
+pub linked_on : (p i : ℕ) (s : List ℕ) → i < length s → linked (pairs p (drop i s)) ≡ linked1 p (get_or s i 0) && linked (pairs (get_or s i 0) (drop (i + 1) s))
+unfolding pairs
+linked_on p i s h =
+    let b = get_or s i 0 in
+    let l = drop (i + 1) s in
+    ap (λ (t : List ℕ). linked (pairs p t)) (next s i (i + 1) (omega arith) h)
+    ∙ linked_join ((p, b) ∷ []) (pairs b l)
+    ∙ ap (λ (t : Bool). t && linked (pairs b l)) (sym (linked_one p b))
+
+pub linked_out : (p i : ℕ) (s : List ℕ) → length s ≤ i → linked (pairs p (drop i s)) ≡ true
+unfolding pairs linked firsts seconds small ascii none_of apart
+linked_out p i s h = rw (drop_of_length-le s h)
 
 -- ---- what the published test says
 

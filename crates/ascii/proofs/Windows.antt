@@ -1,13 +1,20 @@
 -- A test of every element goes part by part, and parts may overlap. Assumes nothing.
-use Prim.Native.Nat.{ℕ, suc, ◌+◌, ◌*◌, ◌-◌, ◌≤◌, ◌<◌}
+use Prim.Native.Nat.{ℕ, zero, suc, ◌+◌, ◌*◌, ◌-◌, ◌/◌, ◌≤◌, ◌<◌}
 use native.Mathlib.Omega.{arith}
 use mathlib.Core.Path.{◌≡◌, refl, sym, ◌∙◌, ap}
 use mathlib.Core.List.{List, [], ◌∷◌, ◌++◌}
 use mathlib.Core.Bool.{Bool, true, false, not, ◌&&◌, ◌||◌}
 use lib.ListN.{length, take, drop, get_or, length-drop, take-append-drop}
-use lib.Seq.{take_all, take-take, take-add, drop-drop, drop-cons}
+use lib.Seq.{take_all, take-take, take-add, drop-cons}
 use lib.Dec.{leb, ltb, eqb}
-use borrow.Author.Tests.{not-true, not-false, lt-ltb, le-ltb}
+use Rattle.std.specs.List.{list_all}
+use Rattle.std.specs.Borrow.{Bor}
+use Rattle.std.specs.Prelude.{Some, None, MatchOption}
+use Rattle.std.specs.Array.{IsWholeChunk}
+use Rattle.std.specs.declared.option.Option.{Option}
+use Rattle.std.specs.Simd.{first_chunks}
+use Rattle.std.specs.Int.{from_le_bytes, w64}
+use borrow.Author.Tests.{lt-ltb, le-ltb}
 use Rattle.text.specs.Text.{one_of, none_of, marks, unqualified}
 use Rattle.text.proofs.Laws.{and_both, and_assoc}
 use Rattle.ascii.specs.Ascii.{ascii, every, packed, bytes}
@@ -40,20 +47,25 @@ module _ {A : Type 0} (T : List A → Bool) (join : (xs ys : List A) → T (xs +
       let q = (and_both (T (take k (take i s))) (T (drop k (take i s))) (sym p ∙ h)).0 in
       cut k ∙ ap (λ (t : Bool). t && T (drop k s)) (ap T (sym (take-take k i s l)) ∙ q)
 
-  -- eight from i on, and the last eight
-  pub two_fours : (i : ℕ) → T (take 4 (drop i s) ++ take 4 (drop (i + 4) s)) ≡ T (take 8 (drop i s))
-  two_fours i = ap T (sym (take-add 4 4 (drop i s) ∙ ap (λ (l : List A). take 4 (drop i s) ++ take 4 l) (drop-drop 4 i s)))
-
-  pub last_eight : (i k : ℕ) → T (take i s) ≡ true → k ≤ i → length s ≤ k + 8 → T (take 4 (drop k s) ++ take 4 (drop (k + 4) s)) ≡ T s
-  last_eight i k h l e = two_fours k ∙ ap T (take_all 8 (drop k s) (rw length-drop (omega arith))) ∙ sym (rest i k h l)
+  -- the first i and those from k on, which may begin before the first end
+  pub overlap : (i k : ℕ) → k ≤ i → T (take i s) && T (drop k s) ≡ T s
+  overlap i k l = go (T (take i s)) refl
+    where
+      go : (t : Bool) → T (take i s) ≡ t → t && T (drop k s) ≡ T s
+      go true h = sym (rest i k h l)
+      go false h = sym (stop 0 i h)
 
   -- the first four and the last four
   pub both_fours : (k : ℕ) → k ≤ 4 → length s ≤ k + 4 → T (take 4 (drop 0 s) ++ take 4 (drop k s)) ≡ T s
-  both_fours k l e = join (take 4 s) (take 4 (drop k s)) ∙ ap (λ (v : List A). T (take 4 s) && T v) (take_all 4 (drop k s) (rw length-drop (omega arith))) ∙ go (T (take 4 s)) refl
-    where
-      go : (t : Bool) → T (take 4 s) ≡ t → t && T (drop k s) ≡ T s
-      go true h = sym (rest 4 k h l)
-      go false h = sym (stop 0 4 h)
+  both_fours k l e = join (take 4 s) (take 4 (drop k s)) ∙ ap (λ (v : List A). T (take 4 s) && T v) (take_all 4 (drop k s) (rw length-drop (omega arith))) ∙ overlap 4 k l
+
+-- eight by eight
+pub eights : {A : Type 0} (T : List A → Bool) → ((xs ys : List A) → T (xs ++ ys) ≡ T xs && T ys) → T [] ≡ true
+    → (k : ℕ) (s : List A) → list_all T (first_chunks 8 k s) ≡ T (take (k * 8) s)
+eights T join nil zero s = sym nil
+eights T join nil (suc k) s =
+    ap (λ (t : Bool). T (take 8 s) && t) (eights T join nil k (drop 8 s))
+    ∙ sym (ap (λ (m : ℕ). T (take m s)) (let e : suc k * 8 ≡ 8 + k * 8 = omega arith in e) ∙ ap T (take-add 8 (k * 8) s) ∙ join (take 8 s) (take (k * 8) (drop 8 s)))
 
 -- ---- the tests here go so
 
@@ -147,36 +159,42 @@ fours_long s i j h k = rw (four_at s i h, four_at s j k)
 pub packed_eight : (s : List ℕ) (i j : ℕ) → i + 4 ≤ length s → packed (take 4 (drop j s)) * 4294967296 + packed (take 4 (drop i s)) ≡ packed (take 4 (drop i s) ++ take 4 (drop j s))
 packed_eight s i j h = rw (four_at s i h) (packed_four _ _ _ _ (take 4 (drop j s)))
 
--- ---- the loops
+-- ---- eight bytes of an array
+
+pub bytes_all : (s : List ℕ) → ((i : ℕ) → get_or s i 0 < 256) → bytes s ≡ true
+unfolding bytes
+bytes_all [] h = refl
+bytes_all (b ∷ s) h = rw (lt-ltb b 256 (h 0)) (bytes_all s (λ i. h (suc i)))
+
+pub packed_word : (s : List ℕ) → length s ≡ 8 → from_le_bytes w64 s ≡ packed s
+unfolding packed
+packed_word s l =
+    let whole : take 4 (drop 0 s) ++ take 4 (drop 4 s) ≡ s = ap (λ (t : List ℕ). take 4 s ++ t) (take_all 4 (drop 4 s) (rw length-drop (omega arith))) ∙ take-append-drop 4 s in
+    let p : packed (take 4 (drop 0 s) ++ take 4 (drop 4 s)) ≡ from_le_bytes w64 s = rw (four_at s 0 (omega arith), four_at s 4 (omega arith)) (omega arith) in
+    sym p ∙ ap packed whole
+
+-- ---- all of them
 
 every_nil : (name : Bool) → every name [] ≡ true
 unfolding every ascii none_of
 every_nil true = refl
 every_nil false = refl
 
--- the invariant: what stands before i is good
-abbrev pub Good : Bool → List ℕ → ℕ → Type 0
-Good name s i = (i ≤ length s) × (every name (take i s) ≡ true)
+-- each byte by itself
+pub every_all : (name : Bool) (s : List ℕ) → list_all (λ b. every name (b ∷ [])) s ≡ every name s
+every_all name [] = sym (every_nil name)
+every_all name (b ∷ s) = ap (λ (t : Bool). every name (b ∷ []) && t) (every_all name s) ∙ sym (every_join name (b ∷ []) s)
 
-module _ (name : Bool) (s : List ℕ) where
-  pub begin : Good name s 0
-  begin = (omega arith, every_nil name)
+-- eight by eight (a is x), and the last eight
+pub every_words : (name : Bool) (s : List ℕ) (a x r : Bool) → 8 ≤ length s → a ≡ list_all (every name) (first_chunks 8 (length s / 8) s) → a ≡ x
+    → r ≡ x && every name (drop (length s - 8) s) → r ≡ every name s
+every_words name s a x r h p e q =
+    q
+    ∙ ap (λ (t : Bool). t && every name (drop (length s - 8) s)) (sym e ∙ p ∙ eights (every name) (every_join name) (every_nil name) (length s / 8) s)
+    ∙ overlap (every name) (every_join name) s (length s / 8 * 8) (length s - 8) (omega arith)
 
-  pub done : (i : ℕ) → Good name s i → length s ≤ i → true ≡ every name s
-  done i g h = sym (ap (every name) (sym (take_all i s h)) ∙ g.1)
-
-  module _ (i : ℕ) (r : Bool) (g : Good name s i) where
-    one_at : i < length s → take 1 (drop i s) ≡ get_or s i 0 ∷ []
-    one_at h = ap (take 1) (drop-cons s i 0 h)
-
-    pub byte_on : i < length s → r ≡ every name (get_or s i 0 ∷ []) → not r ≡ false → Good name s (i + 1)
-    byte_on h e t = (omega arith, go_on (every name) (every_join name) s i 1 g.1 (ap (every name) (one_at h) ∙ sym e ∙ not-false r t))
-
-    pub byte_stop : i < length s → r ≡ every name (get_or s i 0 ∷ []) → not r ≡ true → false ≡ every name s
-    byte_stop h e t = sym (stop (every name) (every_join name) s i 1 (ap (every name) (one_at h) ∙ sym e ∙ not-true r t))
-
-    pub eight_on : 8 ≤ length s - i → r ≡ every name (take 4 (drop i s) ++ take 4 (drop (i + 4) s)) → not r ≡ false → Good name s (i + 8)
-    eight_on h e t = (omega arith, go_on (every name) (every_join name) s i 8 g.1 (sym (two_fours (every name) (every_join name) s i) ∙ sym e ∙ not-false r t))
-
-    pub eight_stop : r ≡ every name (take 4 (drop i s) ++ take 4 (drop (i + 4) s)) → not r ≡ true → false ≡ every name s
-    eight_stop e t = sym (stop (every name) (every_join name) s i 8 (sym (two_fours (every name) (every_join name) s i) ∙ sym e ∙ not-true r t))
+pub last_word : (T : List ℕ → Bool) (s : List ℕ) (r : Bool) (Q : Bor (List ℕ) → Type 0) (o : Option (Bor (List ℕ)))
+    → MatchOption o (length s < 8) (λ w. (8 ≤ length s) × IsWholeChunk (drop (length s - 8) s) w.now 8) → 8 ≤ length s
+    → MatchOption o (r ≡ false) Q → ((w : Bor (List ℕ)) → Q w → r ≡ T w.now) → r ≡ T (drop (length s - 8) s)
+last_word T s r Q None a h q e = absurd (omega arith)
+last_word T s r Q (Some w) a h q e = e w q ∙ ap T a.1.same

@@ -52,6 +52,10 @@ attribute_sound p at a e =
       inside = (skipped_in p.file (at + 6) s.0 b.0 b.1).0;
     })
 
+-- its body lies in the file
+pub body_fits : (p : Pool) (at : ℕ) (a : Attribute) → accept a ≡ attribute_at p at → a.start + a.size ≤ length p.file
+body_fits p at a e = (attribute_sound p at a e).inside
+
 pub record_sound : (own : Bool) (p : Pool) (room n at : ℕ) (a : Attribute) → accept a ≡ record_at own p room n at → Sound p at a
 unfolding record_at
 record_sound own p room n at a e =

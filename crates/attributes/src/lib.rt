@@ -2,12 +2,12 @@
 #![tactic(auto)]
 
 ghost use Rattle.std.specs.Prelude.{◌≡◌, ◌+◌, ◌<◌};
-ghost use Rattle.reads.specs.Promise.{Is, reading_check};
-ghost use Rattle.pool.specs.Pool.{seen};
+ghost use Rattle.reads.specs.Promise.{Is, answered};
+ghost use Rattle.slot.specs.Shown.{shown};
 ghost use Rattle.attributes.specs.Attributes.{attribute_at, ruled, record_at};
-ghost use Rattle.attributes.specs.Readings.{reading_attribute};
 
-use reads::{CheckAnswer, Next, Num2, Num4, Refusal};
+use reads::{Answer, Reason};
+use slot::Pool;
 
 // An attribute: the slot of its name, the first byte of its body, and how many bytes the body has.
 #[derive(Clone, Copy)]
@@ -17,95 +17,43 @@ pub struct Attribute {
     pub size: u32,
 }
 
-// An attribute, or the refusal.
-#[derive(Clone, Copy)]
-pub enum AttributeAnswer {
-    Got(Attribute),
-    Refused(Refusal),
-}
-
 // The attribute whose name index stands at a byte of the file.
-fn attribute_at(file: &[u8], major: u16, table: &[u32], slots: usize, at: usize) -> AttributeAnswer
-    ensures { Is reading_attribute (attribute_at (seen file.now major table.now slots) at) result }
+#[tactic(auto, using(reads::proofs::Leaves::u2_in, reads::proofs::Leaves::u4_in), unfolding(crate::specs::Attributes::attribute_at))]
+fn attribute_at(p: &Pool, at: usize) -> Answer<Attribute>
+    ensures { Is answered (attribute_at (shown p.now) at) result }
 {
-    let name = match reads::read_u2(file, at) {
-        Num2::Refused(r) => {
-            return AttributeAnswer::Refused(r);
-        }
-        Num2::Got(v) => v,
-    };
-    match slot::check_utf8_index(file, major, table, slots, at, name as usize) {
-        CheckAnswer::Refused(r) => {
-            return AttributeAnswer::Refused(r);
-        }
-        CheckAnswer::Fine => {}
-    }
-    let size = match reads::read_u4(file, at + 2) {
-        Num4::Refused(r) => {
-            return AttributeAnswer::Refused(r);
-        }
-        Num4::Got(v) => v,
-    };
-    match reads::skip(file, at + 6, size as usize) {
-        Next::Refused(r) => AttributeAnswer::Refused(r),
-        Next::At(_) => AttributeAnswer::Got(Attribute {
-            name,
-            start: at + 6,
-            size,
-        }),
-    }
+    let name = reads::read_u2(p.file, at)?;
+    p.check_utf8_index(at, name as usize)?;
+    let size = reads::read_u4(p.file, at + 2)?;
+    reads::skip(p.file, at + 6, size as usize)?;
+    Ok(Attribute {
+        name,
+        start: at + 6,
+        size,
+    })
 }
 
-// What is asked of an attribute by its name, where it is one of the class's own.
-fn check_rule(
-    own: bool,
-    file: &[u8],
-    major: u16,
-    table: &[u32],
-    slots: usize,
-    at: usize,
-    a: Attribute,
-) -> CheckAnswer
+// What is asked of an attribute by its name, where it is one of the class's own: `own` is a part of the rule, as the definition has it.
+#[tactic(auto, unfolding(crate::specs::Attributes::ruled, bootstrap::specs::Bootstrap::own_rule))]
+fn check_rule(own: bool, p: &Pool, at: usize, a: Attribute) -> Answer<()>
     requires { a.start + a.size < 18446744073709551616 }
-    ensures { Is reading_check (ruled own (seen file.now major table.now slots) at a) result }
+    ensures { Is answered (ruled own (shown p.now) at a) result }
 {
-    if own {
-        let end = a.start + a.size as usize;
-        return bootstrap::check_own(file, major, table, slots, at, a.name, a.start, end);
+    if !own {
+        return Ok(());
     }
-    CheckAnswer::Fine
+    bootstrap::check_own(p, at, a.name, a.start, a.start + a.size as usize)
 }
 
 // The attribute at a byte of the file, one of the class's own or a member's, where record n has its room.
-pub fn record_at(
-    own: bool,
-    file: &[u8],
-    major: u16,
-    table: &[u32],
-    slots: usize,
-    room: usize,
-    n: usize,
-    at: usize,
-) -> AttributeAnswer
-    ensures { Is reading_attribute (record_at own (seen file.now major table.now slots) room n at) result }
+#[tactic(auto, using(crate::proofs::Tiled::body_fits), unfolding(crate::specs::Attributes::record_at))]
+pub fn record_at(own: bool, p: &Pool, room: usize, n: usize, at: usize) -> Answer<Attribute>
+    ensures { Is answered (record_at own (shown p.now) room n at) result }
 {
-    let a = match attribute_at(file, major, table, slots, at) {
-        AttributeAnswer::Refused(r) => {
-            return AttributeAnswer::Refused(r);
-        }
-        AttributeAnswer::Got(v) => v,
-    };
-    match check_rule(own, file, major, table, slots, at, a) {
-        CheckAnswer::Refused(r) => {
-            return AttributeAnswer::Refused(r);
-        }
-        CheckAnswer::Fine => {}
-    }
+    let a = attribute_at(p, at)?;
+    check_rule(own, p, at, a)?;
     if room <= n {
-        return AttributeAnswer::Refused(Refusal {
-            number: 13,
-            place: at,
-        });
+        return Err(Reason::NoRoom.at(at));
     }
-    AttributeAnswer::Got(a)
+    Ok(a)
 }

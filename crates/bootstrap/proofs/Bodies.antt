@@ -11,19 +11,22 @@ pub body_in : (p : Pool) (at end i v : ℕ) → accept v ≡ body_u2 p at end i 
 unfolding body_u2
 body_in p at end i v e = (was_inside _ end 18 at i 2 v e).0
 
-module _ (step : ℕ → Answer ℕ) (left i : ℕ) where
-  go : 0 < left → steps step left i ≡ (step i >>= λ next. steps step (left - 1) next)
+-- a loop of k steps, the n-th of which stands at byte i
+module _ (step : ℕ → Answer ℕ) (k n i : ℕ) where
+  go : n < k → steps step (k - n) i ≡ (step i >>= λ next. steps step (k - (n + 1)) next)
   unfolding steps
   go h =
-      let k : left ≡ suc (left - 1) = omega arith in
-      ap (λ (j : ℕ). steps step j i) k
+      let e : k - n ≡ suc (k - (n + 1)) = omega arith in
+      ap (λ (j : ℕ). steps step j i) e
 
-  pub steps_go : (next : ℕ) → 0 < left → accept next ≡ step i → steps step (left - 1) next ≡ steps step left i
+  pub steps_go : (next : ℕ) → n < k → accept next ≡ step i → steps step (k - (n + 1)) next ≡ steps step (k - n) i
   steps_go next h e = sym (go h ∙ rw (← e))
 
-  pub steps_stop : (nr place : ℕ) → 0 < left → refuse nr place ≡ step i → refuse nr place ≡ steps step left i
+  pub steps_stop : (nr place : ℕ) → n < k → refuse nr place ≡ step i → refuse nr place ≡ steps step (k - n) i
   steps_stop nr place h e = sym (go h ∙ rw (← e))
 
-  pub steps_done : left ≡ 0 → accept i ≡ steps step left i
+  pub steps_done : k ≤ n → accept i ≡ steps step (k - n) i
   unfolding steps
-  steps_done e = rw e
+  steps_done h =
+      let e : k - n ≡ 0 = omega arith in
+      rw e

@@ -1,65 +1,46 @@
 -- What one pass over the class's own attributes finds says of each index what its rule asks. Assumes nothing.
+use Rattle.std.specs.Prelude.{Option, None, Some}
 use mathlib.Core.Path.{◌≡◌, refl, ap, sym, ◌∙◌}
 use mathlib.Core.Bool.{Bool, true, false, not, ◌&&◌, ◌||◌, cond, and-true, and_assoc}
 use mathlib.Core.List.{List, [], ◌∷◌}
-use Prim.Native.Nat.{ℕ, suc, ◌+◌, ◌-◌, ◌≤◌, ◌<◌, min}
+use Prim.Native.Nat.{ℕ, ◌+◌, ◌-◌, ◌≤◌, min}
 use native.Mathlib.Omega.{arith}
 use native.Mathlib.Nat.{le-min, min-le_left, min-le_right, sub-zero}
-use native.Mathlib.Numerals.{add-one}
-use lib.ListN.{length, get_or, take, drop, drop_of_length-le}
-use lib.Seq.{drop-cons, take-nil}
+use lib.ListN.{length}
 use lib.Dec.{ltb}
 use borrow.Author.Tests.{lt-ltb, le-ltb, ltb-true, ltb-false}
 use Rattle.reads.specs.Answer.{each}
 use Rattle.reads.specs.Bytes.{num2}
-use Rattle.reads.proofs.Leaves.{Bytes, pair_below}
 use Rattle.pool.specs.Pool.{Pool, slots}
-use Rattle.slot.specs.Slots.{cell, field}
+use Rattle.slot.specs.Slots.{field}
 use Rattle.bootstrap.specs.declared.Found.{Found}
 use Rattle.bootstrap.specs.Bootstrap.{is_bootstrap}
-use Rattle.bootstrap.specs.Indices.{bootstraps, below_each, bootstrap_index, bootstrap_indices, none, joined, gathered, judged}
+use Rattle.bootstrap.specs.Indices.{bootstraps, below_each, bootstrap_index, bootstrap_indices, none, lesser, joined, gathered, below, judged}
 
 -- ---- the loop
 
--- a part of a column: its first cell and the rest, and none past the end
-module _ (t : List ℕ) (left i : ℕ) where
-  pub part_more : 0 < left → i < length t → take left (drop i t) ≡ get_or t i 0 ∷ take (left - 1) (drop (i + 1) t)
-  part_more h k =
-      let e : left ≡ suc (left - 1) = omega arith in
-      ap (λ (l : List ℕ). take left l) (drop-cons t i 0 k) ∙ ap (λ (j : ℕ). take j (get_or t i 0 ∷ drop (suc i) t)) e ∙ ap (λ (j : ℕ). get_or t i 0 ∷ take (left - 1) (drop j t)) (sym (add-one i))
-
-  pub part_end : length t ≤ i → take left (drop i t) ≡ []
-  part_end h = ap (λ (l : List ℕ). take left l) (drop_of_length-le t h) ∙ take-nil left
-
-module _ (p : Pool) (titles bodies : List ℕ) (left i : ℕ) (f : Found) where
-  pub gather_go : 0 < left → i < length titles → i < length bodies
-      → gathered p (take (left - 1) (drop (i + 1) titles)) (take (left - 1) (drop (i + 1) bodies)) (joined p f (get_or titles i 0) (get_or bodies i 0))
-      ≡ gathered p (take left (drop i titles)) (take left (drop i bodies)) f
+module _ (p : Pool) (f : Found) where
+  pub gather_go : (titles bodies names starts : List ℕ) (m b : ℕ) (g : Found) → titles ≡ m ∷ names → bodies ≡ b ∷ starts → g ≡ joined p f m b → gathered p names starts g ≡ gathered p titles bodies f
   unfolding gathered
-  gather_go h k l = rw (part_more titles left i h k, part_more bodies left i h l)
+  gather_go titles bodies names starts m b g h k l = rw (h, k, l)
 
-  pub no_name : length titles ≤ i → f ≡ gathered p (take left (drop i titles)) (take left (drop i bodies)) f
+  pub no_name : (titles bodies : List ℕ) → length titles ≡ 0 → f ≡ gathered p titles bodies f
   unfolding gathered
-  no_name h = rw (part_end titles left i h)
+  no_name [] bodies h = refl
+  no_name (m ∷ titles) bodies h = absurd (omega (arith, h))
 
-  pub no_body : length bodies ≤ i → f ≡ gathered p (take left (drop i titles)) (take left (drop i bodies)) f
+  pub no_body : (titles bodies : List ℕ) → length bodies ≡ 0 → f ≡ gathered p titles bodies f
   unfolding gathered
-  no_body h = rw (part_end bodies left i h) (no_more (take left (drop i titles)))
-    where
-      no_more : (l : List ℕ) → f ≡ gathered p l [] f
-      no_more [] = refl
-      no_more (x ∷ l) = refl
-
-  pub none_left : left ≡ 0 → f ≡ gathered p (take left (drop i titles)) (take left (drop i bodies)) f
-  unfolding gathered
-  none_left e = rw e
+  no_body [] bodies h = refl
+  no_body (m ∷ titles) [] h = refl
+  no_body (m ∷ titles) (b ∷ bodies) h = absurd (omega (arith, h))
 
 -- one attribute more is at most one BootstrapMethods more
 pub joined_one : (p : Pool) (f : Found) (m b : ℕ) → (joined p f m b).count ≤ f.count + 1
 unfolding joined
 joined_one p f m b = at (is_bootstrap p m)
   where
-    at : (t : Bool) → (cond t (record { count = f.count + 1; least = min f.least (num2 p.file b) }) f).count ≤ f.count + 1
+    at : (t : Bool) → (cond t (record { count = f.count + 1; least = Some (lesser f.least (num2 p.file b)) }) f).count ≤ f.count + 1
     at true = omega arith
     at false = omega arith
 
@@ -73,21 +54,25 @@ ltb_min i a b = at (ltb i a) (ltb i b) refl refl
     at true false h k = le-ltb i (min a b) (omega (arith, ltb-false i b k, min-le_right a b))
     at false y h k = le-ltb i (min a b) (omega (arith, ltb-false i a h, min-le_left a b))
 
+below_lesser : (i n : ℕ) (m : Option ℕ) → below i (Some (lesser m n)) ≡ (below i m && ltb i n)
+below_lesser i n None = refl
+below_lesser i n (Some m) = ltb_min i m n
+
 module _ (p : Pool) where
   joined_count : (f : Found) (m b : ℕ) → (joined p f m b).count ≡ f.count + cond (is_bootstrap p m) 1 0
   unfolding joined
   joined_count f m b = at (is_bootstrap p m)
     where
-      at : (t : Bool) → (cond t (record { count = f.count + 1; least = min f.least (num2 p.file b) }) f).count ≡ f.count + cond t 1 0
+      at : (t : Bool) → (cond t (record { count = f.count + 1; least = Some (lesser f.least (num2 p.file b)) }) f).count ≡ f.count + cond t 1 0
       at true = refl
       at false = omega arith
 
-  joined_least : (i : ℕ) (f : Found) (m b : ℕ) → ltb i (joined p f m b).least ≡ (ltb i f.least && (not (is_bootstrap p m) || ltb i (num2 p.file b)))
+  joined_least : (i : ℕ) (f : Found) (m b : ℕ) → below i (joined p f m b).least ≡ (below i f.least && (not (is_bootstrap p m) || ltb i (num2 p.file b)))
   unfolding joined
-  joined_least i f m b = at (is_bootstrap p m) (ltb i f.least) refl
+  joined_least i f m b = at (is_bootstrap p m) (below i f.least) refl
     where
-      at : (t s : Bool) → ltb i f.least ≡ s → ltb i (cond t (record { count = f.count + 1; least = min f.least (num2 p.file b) }) f).least ≡ (s && (not t || ltb i (num2 p.file b)))
-      at true s e = ltb_min i f.least (num2 p.file b) ∙ rw e
+      at : (t s : Bool) → below i f.least ≡ s → below i (cond t (record { count = f.count + 1; least = Some (lesser f.least (num2 p.file b)) }) f).least ≡ (s && (not t || ltb i (num2 p.file b)))
+      at true s e = below_lesser i (num2 p.file b) f.least ∙ rw e
       at false true e = e
       at false false e = e
 
@@ -97,24 +82,23 @@ module _ (p : Pool) where
   gathered_count (m ∷ titles) [] f = omega arith
   gathered_count (m ∷ titles) (b ∷ bodies) f = omega (arith, gathered_count titles bodies (joined p f m b), joined_count f m b)
 
-  pub gathered_least : (i : ℕ) (titles bodies : List ℕ) (f : Found) → ltb i (gathered p titles bodies f).least ≡ (ltb i f.least && below_each p i titles bodies)
+  pub gathered_least : (i : ℕ) (titles bodies : List ℕ) (f : Found) → below i (gathered p titles bodies f).least ≡ (below i f.least && below_each p i titles bodies)
   unfolding gathered below_each
-  gathered_least i [] bodies f = sym (and-true (ltb i f.least))
-  gathered_least i (m ∷ titles) [] f = sym (and-true (ltb i f.least))
+  gathered_least i [] bodies f = sym (and-true (below i f.least))
+  gathered_least i (m ∷ titles) [] f = sym (and-true (below i f.least))
   gathered_least i (m ∷ titles) (b ∷ bodies) f =
       gathered_least i titles bodies (joined p f m b)
       ∙ ap (λ (t : Bool). t && below_each p i titles bodies) (joined_least i f m b)
-      ∙ and_assoc (ltb i f.least) _ (below_each p i titles bodies)
+      ∙ and_assoc (below i f.least) _ (below_each p i titles bodies)
 
 -- ---- each slot
 
-module _ (p : Pool) (small : Bytes p.file) (titles bodies : List ℕ) where
+module _ (p : Pool) (titles bodies : List ℕ) where
   judged_alike : (n : ℕ) → judged p (gathered p titles bodies none) n ≡ bootstrap_index p titles bodies n
-  unfolding judged bootstrap_index field
+  unfolding judged bootstrap_index
   judged_alike n =
       let c : (gathered p titles bodies none).count ≡ bootstraps p titles bodies = omega (arith, gathered_count p titles bodies none) in
-      let l : ltb (field p n 1) (gathered p titles bodies none).least ≡ below_each p (field p n 1) titles bodies =
-      gathered_least p (field p n 1) titles bodies none ∙ ap (λ (t : Bool). t && below_each p (field p n 1) titles bodies) (lt-ltb (field p n 1) 65536 (pair_below p.file small (cell p n + 1))) in
+      let l : below (field p n 1) (gathered p titles bodies none).least ≡ below_each p (field p n 1) titles bodies = gathered_least p (field p n 1) titles bodies none in
       rw (c, l)
 
   -- all slots, from what was found

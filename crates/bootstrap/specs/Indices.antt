@@ -1,5 +1,5 @@
 -- Every Dynamic and InvokeDynamic entry names a method of the one BootstrapMethods. Document 01, "Members and lookups". Assumes nothing.
-use Rattle.std.specs.Prelude.{ℕ, ◌+◌, min, List, [], ◌∷◌, Bool, true, not, ◌&&◌, ◌||◌, cond, ltb, eqb}
+use Rattle.std.specs.Prelude.{ℕ, ◌+◌, min, List, [], ◌∷◌, Bool, true, not, ◌&&◌, ◌||◌, cond, ltb, eqb, Option, None, Some}
 use Rattle.reads.specs.Answer.{Check, fine, ◌>>=◌, require, each}
 use Rattle.reads.specs.Bytes.{num2}
 use Rattle.pool.specs.Kinds as kind
@@ -37,23 +37,33 @@ bootstrap_index p titles bodies n =
 unfoldable pub bootstrap_indices : Pool → List ℕ → List ℕ → Check
 bootstrap_indices p titles bodies = each (slots p) 0 (bootstrap_index p titles bodies)
 
--- ---- the same in one pass over the attributes: how many there are, and the least number of methods of one, 65,536 where there is none
+-- ---- the same in one pass over the attributes: how many there are, and the least number of methods of one
 
 abbrev pub none : Found
-none = record { count = 0; least = 65536 }
+none = record { count = 0; least = None }
+
+-- the least so far, and one more
+abbrev pub lesser : Option ℕ → ℕ → ℕ
+lesser None n = n
+lesser (Some m) n = min m n
 
 unfoldable pub joined : Pool → Found → ℕ → ℕ → Found
-joined p f m b = cond (is_bootstrap p m) (record { count = f.count + 1; least = min f.least (num2 p.file b) }) f
+joined p f m b = cond (is_bootstrap p m) (record { count = f.count + 1; least = Some (lesser f.least (num2 p.file b)) }) f
 
 unfoldable pub gathered : Pool → List ℕ → List ℕ → Found → Found
 gathered p [] bodies f = f
 gathered p (m ∷ titles) [] f = f
 gathered p (m ∷ titles) (b ∷ bodies) f = gathered p titles bodies (joined p f m b)
 
+-- an index below the least, if there is one
+abbrev pub below : ℕ → Option ℕ → Bool
+below i None = true
+below i (Some m) = ltb i m
+
 unfoldable pub judged : Pool → Found → ℕ → Check
 judged p f n =
     cond (dynamic (tag_of p n))
     (do
-      _ ← require (ltb (field p n 1) f.least) 17 n
+      _ ← require (below (field p n 1) f.least) 17 n
       require (eqb f.count 1) 16 n)
     fine

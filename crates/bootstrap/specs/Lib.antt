@@ -1,2 +1,3 @@
 pub mod Bootstrap
 pub mod Indices
+pub mod Steps

@@ -1,346 +1,224 @@
 // The attribute BootstrapMethods: its body is checked where it is framed, and the entries that name one of its methods after the file is read.
 #![tactic(auto)]
 
-ghost use Rattle.std.specs.Prelude.{◌≡◌, ◌<◌, take, drop};
-ghost use Rattle.reads.specs.Promise.{Is, reading2, reading_check, reading_next};
-ghost use Rattle.pool.specs.Pool.{seen};
-ghost use Rattle.bootstrap.specs.Bootstrap.{is_bootstrap, loadable, body_u2, index_at, steps, method_at, bootstrap_body, own_body};
-ghost use Rattle.bootstrap.specs.Indices.{dynamic, bootstrap_indices, none, joined, gathered, judged};
+ghost use Rattle.std.specs.Prelude.{ℕ, ◌≡◌, ◌≤◌, take, drop, length};
+ghost use Rattle.reads.specs.Answer.{Answer as AnswerOf};
+ghost use Rattle.reads.specs.Promise.{Is, answered};
+ghost use Rattle.slot.specs.Shown.{shown};
+ghost use Rattle.bootstrap.specs.Bootstrap.{is_bootstrap, body_u2, index_at, steps, method_at, bootstrap_body, own_body};
+ghost use Rattle.bootstrap.specs.Steps.{Steps};
+ghost use Rattle.bootstrap.specs.Indices.{dynamic, bootstrap_indices, none, lesser, joined, gathered, below, judged};
 
-use reads::{CheckAnswer, Next, Num2, Refusal};
+use pool::Kind;
+use reads::{Answer, Reason};
+use slot::Pool;
 
-const LOADABLE: u32 = 0x181F8;
+const LOADABLE: u32 = pool::INTEGER
+    | pool::FLOAT
+    | pool::LONG
+    | pool::DOUBLE
+    | pool::CLASS
+    | pool::STRING
+    | pool::METHOD_HANDLE
+    | pool::METHOD_TYPE;
 
-const DYNAMIC: u8 = 17;
+// The body of a BootstrapMethods: the pool that it names slots of, the attribute's first byte, and the byte after the body.
+#[derive(Clone, Copy)]
+struct Body<'p, 'a> {
+    pool: &'p Pool<'a>,
+    at: usize,
+    end: usize,
+}
 
-const INVOKE_DYNAMIC: u8 = 18;
-
-// What the class's own attributes say of BootstrapMethods: how many there are, and the least number of methods of one, 65,536 where there is none.
+// What the class's own attributes say of BootstrapMethods: how many there are, and the least number of methods of one.
 #[derive(Clone, Copy)]
 struct Found {
     count: u32,
-    least: usize,
+    least: Option<u16>,
 }
 
 // Whether slot m holds the sixteen bytes of BootstrapMethods.
-fn is_bootstrap(file: &[u8], major: u16, table: &[u32], slots: usize, m: usize) -> bool
-    ensures { result ≡ is_bootstrap (seen file.now major table.now slots) m }
+#[tactic(auto, unfolding(crate::specs::Bootstrap::is_bootstrap))]
+fn is_bootstrap(p: &Pool, m: usize) -> bool
+    ensures { result ≡ is_bootstrap (shown p.now) m }
 {
-    text::is_bootstrap_methods(slot::bytes_of(file, major, table, slots, m))
+    text::is_bootstrap_methods(p.bytes(m))
 }
 
-// The u2 at byte i of a body that ends before byte `end`; `at` is the attribute's first byte.
-fn body_u2(
-    file: &[u8],
-    major: u16,
-    table: &[u32],
-    slots: usize,
-    at: usize,
-    end: usize,
-    i: usize,
-) -> Num2
-    ensures { Is reading2 (body_u2 (seen file.now major table.now slots) at end i) result }
-{
-    if end < i {
-        return Num2::Refused(Refusal {
-            number: 18,
-            place: at,
-        });
-    }
-    if end - i < 2 {
-        return Num2::Refused(Refusal {
-            number: 18,
-            place: at,
-        });
-    }
-    Num2::Got(reads::pair_at(file, i))
-}
-
-// The index at byte i of a body names a slot of an allowed kind: the byte after it.
-fn index_at(
-    allowed: u32,
-    file: &[u8],
-    major: u16,
-    table: &[u32],
-    slots: usize,
-    at: usize,
-    end: usize,
-    i: usize,
-) -> Next
-    ensures { Is reading_next (index_at allowed (seen file.now major table.now slots) at end i) result }
-{
-    let m = match body_u2(file, major, table, slots, at, end, i) {
-        Num2::Refused(r) => {
-            return Next::Refused(r);
-        }
-        Num2::Got(v) => v,
-    };
-    match slot::check_range(file, major, table, slots, i, m as usize) {
-        CheckAnswer::Refused(r) => {
-            return Next::Refused(r);
-        }
-        CheckAnswer::Fine => {}
-    }
-    match slot::check_kind(file, major, table, slots, i, allowed, m as usize) {
-        CheckAnswer::Refused(r) => Next::Refused(r),
-        CheckAnswer::Fine => Next::At(i + 2),
-    }
-}
-
-// The arguments of a method, count of them from a byte on: the byte after them.
-fn arguments(
-    file: &[u8],
-    major: u16,
-    table: &[u32],
-    slots: usize,
-    at: usize,
-    end: usize,
-    count: u16,
-    start: usize,
-) -> Next
-    ensures { Is reading_next (steps (index_at loadable (seen file.now major table.now slots) at end) count start) result }
+// As many steps through a body as a count says, each from the byte that the one before it reached: the byte after the last.
+fn steps<F: Fn(usize) -> Answer<usize>>(step: F, count: u16, start: usize) -> Answer<usize>
+    requires { F.IsAlwaysCallable step }
+    ensures { (s : ℕ → AnswerOf ℕ) → Steps s (F.post step) → Is answered (steps s count start) result }
 {
     let mut i = start;
-    let mut left = count;
-    while 0 < left {
-        match index_at(LOADABLE, file, major, table, slots, at, end, i) {
-            Next::Refused(r) => {
-                return Next::Refused(r);
-            }
-            Next::At(next) => {
-                i = next;
-            }
-        }
-        left -= 1;
+    for _ in 0..count {
+        i = step(i)?;
     }
-    Next::At(i)
+    Ok(i)
 }
 
-// The method at byte i of a body: its handle, the number of its arguments, and these.
-fn method_at(
-    file: &[u8],
-    major: u16,
-    table: &[u32],
-    slots: usize,
-    at: usize,
-    end: usize,
-    i: usize,
-) -> Next
-    ensures { Is reading_next (method_at (seen file.now major table.now slots) at end i) result }
-{
-    let j = match index_at(pool::METHOD_HANDLE, file, major, table, slots, at, end, i) {
-        Next::Refused(r) => {
-            return Next::Refused(r);
+impl<'p, 'a> Body<'p, 'a> {
+    // The u2 at byte i. Most stand in the file too, and one test tells both.
+    #[tactic(auto, unfolding(crate::specs::Bootstrap::body_u2))]
+    fn number(&self, i: usize) -> Answer<u16>
+        ensures { Is answered (body_u2 (shown self.now.pool.now) self.now.at self.now.end i) result }
+    {
+        let file = self.pool.file;
+        let whole = self.end.min(file.len());
+        if i < whole && 1 < whole - i {
+            return Ok(u16::from_be_bytes([file[i], file[i + 1]]));
         }
-        Next::At(next) => next,
-    };
-    let count = match body_u2(file, major, table, slots, at, end, j) {
-        Num2::Refused(r) => {
-            return Next::Refused(r);
+        if self.end < i || self.end - i < 2 {
+            return Err(Reason::LeftOver.at(self.at));
         }
-        Num2::Got(v) => v,
-    };
-    arguments(file, major, table, slots, at, end, count, j + 2)
-}
-
-// The methods of a body, count of them from a byte on: the byte after them.
-fn methods(
-    file: &[u8],
-    major: u16,
-    table: &[u32],
-    slots: usize,
-    at: usize,
-    end: usize,
-    count: u16,
-    start: usize,
-) -> Next
-    ensures { Is reading_next (steps (method_at (seen file.now major table.now slots) at end) count start) result }
-{
-    let mut i = start;
-    let mut left = count;
-    while 0 < left {
-        match method_at(file, major, table, slots, at, end, i) {
-            Next::Refused(r) => {
-                return Next::Refused(r);
-            }
-            Next::At(next) => {
-                i = next;
-            }
-        }
-        left -= 1;
+        Ok(reads::pair_at(file, i))
     }
-    Next::At(i)
-}
 
-// The body of a BootstrapMethods attribute, from byte `start` up to byte `end`, is used up exactly.
-fn check_body(
-    file: &[u8],
-    major: u16,
-    table: &[u32],
-    slots: usize,
-    at: usize,
-    start: usize,
-    end: usize,
-) -> CheckAnswer
-    ensures { Is reading_check (bootstrap_body (seen file.now major table.now slots) at start end) result }
-{
-    let n = match body_u2(file, major, table, slots, at, end, start) {
-        Num2::Refused(r) => {
-            return CheckAnswer::Refused(r);
-        }
-        Num2::Got(v) => v,
-    };
-    let next = match methods(file, major, table, slots, at, end, n, start + 2) {
-        Next::Refused(r) => {
-            return CheckAnswer::Refused(r);
-        }
-        Next::At(i) => i,
-    };
-    if next != end {
-        return CheckAnswer::Refused(Refusal {
-            number: 18,
-            place: at,
-        });
+    // The index at byte i names a slot of an allowed kind: the byte after it.
+    #[tactic(auto, using(crate::proofs::Bodies::body_in), unfolding(crate::specs::Bootstrap::index_at))]
+    fn index(&self, allowed: u32, i: usize) -> Answer<usize>
+        ensures { Is answered (index_at allowed (shown self.now.pool.now) self.now.at self.now.end i) result }
+    {
+        let m = self.number(i)?;
+        self.pool.check_range(i, m as usize)?;
+        self.pool.check_kind(i, allowed, m as usize)?;
+        Ok(i + 2)
     }
-    CheckAnswer::Fine
+
+    // The method at byte i: its handle, the number of its arguments, and these.
+    #[tactic(auto, using(crate::proofs::Bodies::body_in), unfolding(crate::specs::Bootstrap::method_at))]
+    fn method(&self, i: usize) -> Answer<usize>
+        ensures { Is answered (method_at (shown self.now.pool.now) self.now.at self.now.end i) result }
+    {
+        let j = self.index(pool::METHOD_HANDLE, i)?;
+        let count = self.number(j)?;
+        steps(|k| self.index(LOADABLE, k), count, j + 2)
+    }
+
+    // The body, from byte `start` on, is used up exactly.
+    #[tactic(auto, using(crate::proofs::Bodies::body_in), unfolding(crate::specs::Bootstrap::bootstrap_body))]
+    fn check(&self, start: usize) -> Answer<()>
+        ensures { Is answered (bootstrap_body (shown self.now.pool.now) self.now.at start self.now.end) result }
+    {
+        let count = self.number(start)?;
+        let next = steps(|i| self.method(i), count, start + 2)?;
+        if next != self.end {
+            return Err(Reason::LeftOver.at(self.at));
+        }
+        Ok(())
+    }
 }
 
 // An attribute of the class itself: its body, from byte `start` up to byte `end`, is looked into where it is called BootstrapMethods.
-pub fn check_own(
-    file: &[u8],
-    major: u16,
-    table: &[u32],
-    slots: usize,
-    at: usize,
-    name: u16,
-    start: usize,
-    end: usize,
-) -> CheckAnswer
-    ensures { Is reading_check (own_body (seen file.now major table.now slots) at name start end) result }
+pub fn check_own(p: &Pool, at: usize, name: u16, start: usize, end: usize) -> Answer<()>
+    ensures { Is answered (own_body (shown p.now) at name start end) result }
 {
-    if is_bootstrap(file, major, table, slots, name as usize) {
-        return check_body(file, major, table, slots, at, start, end);
+    if !is_bootstrap(p, name as usize) {
+        return Ok(());
     }
-    CheckAnswer::Fine
+    let body = Body { pool: p, at, end };
+    body.check(start)
+}
+
+// The least number of methods so far, and that of one BootstrapMethods more.
+fn lesser(least: Option<u16>, n: u16) -> u16
+    ensures { result ≡ lesser least n }
+{
+    match least {
+        None => n,
+        Some(m) => m.min(n),
+    }
 }
 
 // What was found so far, and one attribute more.
-fn join(
-    file: &[u8],
-    major: u16,
-    table: &[u32],
-    slots: usize,
-    found: Found,
-    name: u16,
-    body: u32,
-) -> Found
-    requires { found.count < 65536 }
-    ensures { result ≡ joined (seen file.now major table.now slots) found name body }
+#[tactic(auto, unfolding(crate::specs::Indices::joined))]
+fn join(p: &Pool, found: Found, name: u16, body: u32) -> Found
+    requires { found.count ≤ 65535 }
+    ensures { result ≡ joined (shown p.now) found name body }
 {
-    if is_bootstrap(file, major, table, slots, name as usize) {
-        let n = reads::pair_at(file, body as usize);
-        return Found {
-            count: found.count + 1,
-            least: reads::least(found.least, n as usize),
-        };
+    if !is_bootstrap(p, name as usize) {
+        return found;
     }
-    found
+    let n = reads::pair_at(p.file, body as usize);
+    Found {
+        count: found.count + 1,
+        least: Some(lesser(found.least, n)),
+    }
 }
 
-// What the attributes from record `first` on say, count of them.
-fn gather(
-    file: &[u8],
-    major: u16,
-    table: &[u32],
-    slots: usize,
-    titles: &[u16],
-    bodies: &[u32],
-    first: usize,
-    count: u16,
-) -> Found
-    ensures { result ≡ gathered (seen file.now major table.now slots) (take count (drop first titles.now)) (take count (drop first bodies.now)) none }
+// What attributes say whose names are in these slots, and whose bodies begin there.
+fn gather(p: &Pool, titles: &[u16], bodies: &[u32]) -> Found
+    requires { length titles.now ≤ 65535 }
+    ensures { result ≡ gathered (shown p.now) titles.now bodies.now none }
 {
     let mut found = Found {
         count: 0,
-        least: 65536,
+        least: None,
     };
-    let mut i = first;
-    let mut left = count;
-    while 0 < left {
-        if titles.len() <= i {
-            return found;
-        }
-        if bodies.len() <= i {
-            return found;
-        }
-        found = join(file, major, table, slots, found, titles[i], bodies[i]);
-        i += 1;
-        left -= 1;
+    for (name, body) in titles.iter().zip(bodies) {
+        found = join(p, found, *name, *body);
     }
     found
 }
 
 // Whether a tag is that of an entry that names a method of a BootstrapMethods.
+#[tactic(auto, unfolding(crate::specs::Indices::dynamic))]
 fn is_dynamic(tag: u8) -> bool
     ensures { result ≡ dynamic tag }
 {
-    tag == DYNAMIC || tag == INVOKE_DYNAMIC
+    tag == Kind::Dynamic as u8 || tag == Kind::InvokeDynamic as u8
+}
+
+// Whether an index is below the least number of methods, if there is one.
+fn is_below(i: u16, least: Option<u16>) -> bool
+    ensures { result ≡ below i least }
+{
+    match least {
+        None => true,
+        Some(m) => i < m,
+    }
 }
 
 // The index of slot n, where it is a Dynamic or an InvokeDynamic.
-fn check_index(
-    file: &[u8],
-    major: u16,
-    table: &[u32],
-    slots: usize,
-    found: Found,
-    n: usize,
-) -> CheckAnswer
-    ensures { Is reading_check (judged (seen file.now major table.now slots) found n) result }
+#[tactic(auto, unfolding(crate::specs::Indices::judged))]
+fn check_index(p: &Pool, found: Found, n: usize) -> Answer<()>
+    ensures { Is answered (judged (shown p.now) found n) result }
 {
-    if is_dynamic(slot::tag_of(file, major, table, slots, n)) {
-        let i = slot::field_of(file, major, table, slots, n, 1) as usize;
-        if found.least <= i {
-            return CheckAnswer::Refused(Refusal {
-                number: 17,
-                place: n,
-            });
-        }
-        if found.count != 1 {
-            return CheckAnswer::Refused(Refusal {
-                number: 16,
-                place: n,
-            });
-        }
+    if !is_dynamic(p.tag(n)) {
+        return Ok(());
     }
-    CheckAnswer::Fine
+    if !is_below(p.field(n, 1), found.least) {
+        return Err(Reason::NoMethod.at(n));
+    }
+    if found.count != 1 {
+        return Err(Reason::NotOneBootstrap.at(n));
+    }
+    Ok(())
+}
+
+// The cells of a column from record `first` on, count of them, or as many of them as it has.
+fn part<T>(column: &[T], first: usize, count: u16) -> &[T]
+    ensures { result.now ≡ take count (drop first column.now) }
+{
+    let rest = &column[first.min(column.len())..];
+    &rest[..rest.len().min(count as usize)]
 }
 
 // Every Dynamic and InvokeDynamic, by rising slot: its index is below the number of methods of each BootstrapMethods among the class's own
-// attributes, and there is exactly one. Those are the records from `first` on, count of them, in the columns of name slots and of body offsets.
+// attributes, and there is exactly one. Those are the records from `first` on, count of them, in the columns of name slots and of body offsets,
+// which are two slices as `read_class` is lent them.
 pub fn check_indices(
-    file: &[u8],
-    major: u16,
-    table: &[u32],
-    slots: usize,
+    p: &Pool,
     titles: &[u16],
     bodies: &[u32],
     first: usize,
     count: u16,
-) -> CheckAnswer
-    ensures { Is reading_check (bootstrap_indices (seen file.now major table.now slots) (take count (drop first titles.now)) (take count (drop first bodies.now))) result }
+) -> Answer<()>
+    ensures { Is answered (bootstrap_indices (shown p.now) (take count (drop first titles.now)) (take count (drop first bodies.now))) result }
 {
-    let found = gather(file, major, table, slots, titles, bodies, first, count);
-    let end = slot::slots_of(file, major, table, slots);
-    let mut n = 0;
-    while n < end {
-        match check_index(file, major, table, slots, found, n) {
-            CheckAnswer::Refused(r) => {
-                return CheckAnswer::Refused(r);
-            }
-            CheckAnswer::Fine => {}
-        }
-        n += 1;
+    let found = gather(p, part(titles, first, count), part(bodies, first, count));
+    for n in 0..p.count() {
+        check_index(p, found, n)?;
     }
-    CheckAnswer::Fine
+    Ok(())
 }

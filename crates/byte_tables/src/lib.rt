@@ -3,61 +3,49 @@
 #![tactic(auto)]
 
 ghost use Rattle.std.specs.Prelude.{◌≡◌, ◌≤◌, length};
-ghost use Rattle.reads.specs.Promise.{Is, reading_check};
+ghost use Rattle.reads.specs.Promise.{Is, answered};
 ghost use Rattle.reads.specs.Tables.{after};
-ghost use Rattle.pool.specs.Pool.{seen};
+ghost use Rattle.slot.specs.Shown.{shown};
 ghost use Rattle.handed.specs.Handed.{agree};
 ghost use Rattle.cells.specs.Cells.{cells_in};
 ghost use Rattle.byte_tables.specs.Afresh.{afresh, taken};
 ghost use Rattle.byte_tables.specs.Enough.{enough_for};
 
-use pool::PoolAnswer;
-use reads::{CheckAnswer, Refusal};
+use reads::{Answer, Reason};
+use slot::Pool;
 
 // That a handed table that is bytes agrees with the cells of the slots, and is zero past them.
-fn check_bytes(file: &[u8], major: u16, cells: &[u32], slots: usize, table: &[u8]) -> CheckAnswer
-    ensures { Is reading_check (agree (seen file.now major cells.now slots).cells (cells_in table.now)) result }
+fn check_bytes(p: &Pool, table: &[u8]) -> Answer<()>
+    ensures { Is answered (agree (shown p.now).cells (cells_in table.now)) result }
 {
     let end = table.len() / 4;
-    let mut i = 0;
-    while i < end {
-        match handed::same_cell(
-            cells::cell_at(table, i),
-            slot::cell_of(file, major, cells, slots, i),
-            i,
-        ) {
-            CheckAnswer::Refused(r) => {
-                return CheckAnswer::Refused(r);
-            }
-            CheckAnswer::Fine => {}
-        }
-        i += 1;
+    for i in 0..end {
+        handed::same_cell(cells::cell_at(table, i), p.cell(i), i)?;
     }
-    if end < slot::slots_of(file, major, cells, slots) {
-        return CheckAnswer::Refused(Refusal {
-            number: 12,
-            place: end,
-        });
+    if end < p.count() {
+        return Err(Reason::OtherTable.at(end));
     }
-    CheckAnswer::Fine
+    Ok(())
 }
 
 // The entries, read afresh into the lent cells, and 12 where the handed table is not these. What the entries break is refused as they
 // are read; of the pool's checks nothing is done yet. After a refusal the cells are zero.
-pub fn check_afresh(file: &[u8], table: &[u8], cells: &mut [u32]) -> CheckAnswer
-    ensures answer { Is reading_check (afresh file.now (cells_in table.now) (length cells.old)) result }
+pub fn check_afresh(file: &[u8], table: &[u8], cells: &mut [u32]) -> Answer<()>
+    ensures answer { Is answered (afresh file.now (cells_in table.now) (length cells.old)) result }
     ensures cells { cells.new ≡ after 0 (λ w. w.pool.cells) (length cells.old) (taken file.now (cells_in table.now) (length cells.old)) }
 {
-    match pool::read_entries(file, cells) {
-        PoolAnswer::Refused(r) => CheckAnswer::Refused(r),
-        PoolAnswer::Accepted(h) => match check_bytes(file, h.major, cells, h.slots, table) {
-            CheckAnswer::Refused(r) => {
-                reads::clear(cells);
-                CheckAnswer::Refused(r)
-            }
-            CheckAnswer::Fine => CheckAnswer::Fine,
-        },
+    let h = pool::read_entries(file, cells)?;
+    let p = Pool {
+        file,
+        major: h.major,
+        table: cells,
+        slots: h.slots,
+    };
+    if let Err(r) = check_bytes(&p, table) {
+        reads::clear(cells);
+        return Err(r);
     }
+    Ok(())
 }
 
 // How many cells are enough for the pool of a file, whatever it claims.
@@ -66,9 +54,5 @@ pub fn cells_for(file: &[u8]) -> usize
 {
     let by_count = reads::pair_at(file, 8) as usize + 1;
     let by_size = file.len() / 3;
-    if by_count < by_size {
-        by_count
-    } else {
-        by_size
-    }
+    by_count.min(by_size)
 }

@@ -12,6 +12,7 @@ use Rattle.reads.specs.Promise.{Reading, Is}
 use Rattle.text.specs.Text as text
 use Rattle.descriptors.specs.Descriptors as descriptors
 use Rattle.pool.specs.Kinds as kind
+use Rattle.pool.specs.Named as named
 use Rattle.pool.specs.Rows as rows
 use Rattle.pool.specs.Pool as pool
 use Rattle.slot.specs.Slots as slot
@@ -70,7 +71,7 @@ unfolding text.same reads.within reads.u1 reads.u2 reads.u4 reads.skipped text.o
     text.walked text.whole text.is_init text.is_clinit text.is_bootstrap_methods text.method_name text.escape text.module_byte text.module_form
     text.module_name descriptors.stands descriptors.class_length descriptors.on_more descriptors.base_length descriptors.type_length descriptors.depth
     descriptors.field_descriptor descriptors.array_descriptor descriptors.return_descriptor descriptors.closing descriptors.returned
-    descriptors.method_descriptor descriptors.returns_void descriptors.takes_nothing answers.each tables.padded kind.has rows.row_of pool.second_width
+    descriptors.method_descriptor descriptors.returns_void descriptors.takes_nothing answers.each tables.padded kind.has named.kind_of rows.row_of pool.second_width
     pool.wide pool.entry_at pool.slot_at pool.entries pool.all_entries pool.header_of pool.read_pool slot.tag_of slot.field slot.bytes_of slot.of_kind
     slot.text_at slot.text_of slot.class_name slot.class_text slot.typed checks.reference checks.references checks.handled checks.handle checks.member
     checks.name_and_type checks.obey checks.checked checks.pool handed.agree handed.judged handed.handed handed.lookup handed.asked literal.twos

@@ -1,5 +1,5 @@
 -- Worked cases: for the contract of each public call an answer and two that it rules out, a row each. Assumes nothing.
-use Rattle.std.specs.Prelude.{ℕ, ◌+◌, ◌*◌, ◌≡◌, List, [], ◌∷◌, ◌++◌, Bool, true, false, cond, not, ◌&&◌, ℤ, pos, negsuc, length, take, drop, replicate, eqb}
+use Rattle.std.specs.Prelude.{ℕ, ◌+◌, ◌*◌, ◌≡◌, List, [], ◌∷◌, ◌++◌, Bool, true, false, cond, not, ◌&&◌, Option, Some, None, ℤ, pos, negsuc, length, take, drop, replicate, eqb}
 use Rattle.std.specs.Float.{binary32, binary64}
 use Rattle.std.specs.Float.Ieee.{of_bits}
 use Rattle.reads.specs.Answer.{Answer, Check, fine, accept, refuse, mapped, require}
@@ -9,6 +9,9 @@ use Rattle.text.specs.Text.{same, run, before, text_form, is_text, unqualified, 
 use Rattle.descriptors.specs.Descriptors.{stands, field_descriptor, array_descriptor, method_descriptor, returns_void, takes_nothing}
 use Rattle.ascii.specs.Ascii.{ascii}
 use Rattle.pool.specs.Kinds as kind
+use Rattle.pool.specs.Named.{tag_for, kind_of}
+use Rattle.pool.specs.declared.Kind.{Kind}
+use Rattle.pool.specs.declared.Kind.TheVariants.{Dynamic, InvokeDynamic}
 use Rattle.pool.specs.Rows as rows
 use Rattle.pool.specs.declared.Row.{Row as Widths}
 use Rattle.pool.specs.declared.Slot.{Slot}
@@ -176,6 +179,11 @@ texts =
 
 -- ---- the pool
 
+-- the tag of a kind, if there is one
+abbrev kind_told : Option Kind → List ℕ
+kind_told (Some k) = tag_for k ∷ []
+kind_told None = []
+
 abbrev widths : Widths → List ℕ
 widths w = rows.since w ∷ rows.first w ∷ rows.second w ∷ rows.one w ∷ rows.other w ∷ []
 
@@ -196,6 +204,7 @@ pool_v = record { file = at_major 52 (0 ∷ 3 ∷ 7 ∷ 0 ∷ 2 ∷ 1 ∷ 0 ∷ 
 abbrev pub pools : List Row
 pools =
     row widths (rows.row_of 17) (rows.row 55 2 2 3 0) (rows.row 51 2 2 3 0) (rows.row 55 2 2 1 3)  -- row_of
+    ∷ row kind_told (kind_of 17) (Some Dynamic) None (Some InvokeDynamic)  -- Kind::of
     ∷ row (answer (λ (h : Header). h.minor ∷ h.major ∷ h.count ∷ [])) (header_of (at_major 52 (0 ∷ 3 ∷ []))) (accept (record { minor = 0; major = 52; count = 3 })) (accept (record { minor = 52; major = 0; count = 3 })) (refuse 3 0)  -- header_of
     ∷ row (answer (λ (e : Slot). e.cell ∷ e.next ∷ bit e.wide ∷ [])) (slot_at file_e 52 3 1 false 10) (accept (record { cell = 10; next = 13; wide = false })) (accept (record { cell = 1; next = 13; wide = false })) (refuse 5 1)  -- slot_at
     ∷ row (tabled head) (entries_of file_f 2) (accept (record { slots = 2; minor = 0; major = 52; next = 13 }), 0 ∷ 10 ∷ []) (refuse 6 1, 0 ∷ 0 ∷ []) (accept (record { slots = 2; minor = 0; major = 52; next = 13 }), 0 ∷ 0 ∷ [])  -- read_entries

@@ -23,26 +23,24 @@ module _ (xs ts : List ℕ) (fits : 4 * length xs ≤ length ts) where
     size : (k : ℕ) → k ≤ length xs → length (bytes_for (take k xs)) ≡ 4 * k
     size k h = length_bytes (take k xs) ∙ ap (λ (m : ℕ). 4 * m) (length-take-le k xs h)
 
-    pub turn : i < length xs → ys ≡ written (mid_of (i * 4) (length t - i * 4) t) 0 (cell_bytes (get_or xs i 0)) → Sofar xs ts (put_mid (i * 4) (length t - i * 4) t ys) (i + 1)
-    turn h w =
+    pub turn : (k : ℕ) → i < length xs → k ≡ 4 → ys ≡ cell_bytes (get_or xs i 0) → Sofar xs ts (put_mid (i * 4) k t ys) (i + 1)
+    turn k h f w =
         let p = size i v.0 in
         let q = size (i + 1) (omega arith) in
-        let e = next ts 0 (bytes_for (take i xs)) (cell_bytes (get_or xs i 0)) t ys (i * 4) (length t - i * 4) v.2 (omega arith) (omega arith) refl w ∙ ap (written ts 0) (bytes_more xs i h) in
+        let e = next ts 0 (bytes_for (take i xs)) ys t (i * 4) k v.2 (omega arith) (omega arith) (f ∙ sym (ap length w)) ∙ ap (λ (z : List ℕ). written ts 0 (bytes_for (take i xs) ++ z)) w ∙ ap (written ts 0) (bytes_more xs i h) in
         (omega arith, ap length e ∙ length_written ts 0 (bytes_for (take (i + 1) xs)) (omega arith), e)
 
-    pub end : length xs ≤ i → ys ≡ replicate (length (mid_of (i * 4) (length t - i * 4) t)) 0 → put_mid (i * 4) (length t - i * 4) t ys ≡ as_bytes (length ts) xs
+    pub end : (m : ℕ) → m ≡ length xs * 4 → length xs ≤ i → ys ≡ replicate (length (mid_of m (length t - m) t)) 0 → put_mid m (length t - m) t ys ≡ as_bytes (length ts) xs
     unfolding as_bytes
-    end h w =
+    end m d h w =
         let e : t ≡ written ts 0 (bytes_for xs) = v.2 ∙ ap (λ (z : List ℕ). written ts 0 (bytes_for z)) (take_all i xs h) in
         let b = length_bytes xs in
         let l = v.1 in
-        let n = length t - i * 4 in
+        let n = length t - m in
         let k = length ts - 4 * length xs in
-        let mid = mid_of (i * 4) n t in
-        let d = length-drop (i * 4) t in
-        let m : length mid ≡ k = length-take-le n (drop (i * 4) t) (omega arith) ∙ omega arith in
+        let o : length (mid_of m n t) ≡ k = length-take-le n (drop m t) (omega (arith, length-drop m t)) ∙ omega arith in
         let z = replicate {A = ℕ} k 0 in
-        let o = length-replicate {A = ℕ} k 0 in
-        let u = w ∙ ap (λ (j : ℕ). replicate {A = ℕ} j 0) m ∙ written_whole mid z (o ∙ sym m) in
+        let u : ys ≡ z = w ∙ ap (λ (j : ℕ). replicate {A = ℕ} j 0) o in
+        let c = length-replicate {A = ℕ} k 0 in
         let a = length-append (bytes_for xs) z in
-        next ts 0 (bytes_for xs) z t ys (i * 4) n e (omega arith) (omega arith) refl u ∙ sym (written_whole ts (bytes_for xs ++ z) (omega arith))
+        ap (put_mid m n t) u ∙ next ts 0 (bytes_for xs) z t m n e (omega arith) (omega arith) (omega arith) ∙ sym (written_whole ts (bytes_for xs ++ z) (omega arith))

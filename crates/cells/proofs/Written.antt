@@ -1,20 +1,17 @@
 -- Pieces written one after the other. Assumes nothing.
 use mathlib.Core.Path.{◌≡◌, refl, ap, sym, ◌∙◌}
-use Prim.Native.Nat.{ℕ, ◌+◌, ◌-◌, ◌≤◌}
-use native.Mathlib.Nat.{zero-add}
+use Prim.Native.Nat.{ℕ, ◌+◌, ◌≤◌}
 use native.Mathlib.Omega.{arith}
 use mathlib.Core.List.{List, [], ◌++◌, append_assoc, append-nil}
 use lib.ListN.{length, take, drop, length-append, length-take, length-drop, drop_of_length-le}
-use lib.Seq.{take_all, take_at, drop-append-add, drop-drop, length-take-le, sets, sets-eq, take-length}
-use borrow.Rule.Slice.PartMut.{put_mid, mid_of}
+use lib.Seq.{take_at, drop-append-add, drop-drop, length-take-le}
+use borrow.Rule.Slice.PartMut.{put_mid}
 use Rattle.cells.specs.Cells.{written}
 
--- what a callee that was lent the tail from at wrote there, said of the whole
-pub tail_put : (xs : List ℕ) (at n : ℕ) (p ys : List ℕ) → at ≤ length xs → n ≡ length xs - at → ys ≡ written (mid_of at n xs) 0 p → put_mid at n xs ys ≡ written xs at p
+-- what was written over the k bytes from `at` on
+put_here : (xs : List ℕ) (at k : ℕ) (ys : List ℕ) → k ≡ length ys → put_mid at k xs ys ≡ written xs at ys
 unfolding written
-tail_put xs at n p ys h m e =
-    let l : length (drop at xs) ≤ n = omega (arith, length-drop at xs) in
-    simp (e, take_all n (drop at xs) l, drop_of_length-le (drop at xs) l, append-nil, zero-add, drop-drop)
+put_here xs at k ys e = ap (λ (l : List ℕ). take at xs ++ (ys ++ l)) (drop-drop k at xs ∙ ap (λ (m : ℕ). drop (at + m) xs) e)
 
 pub length_written : (xs : List ℕ) (at : ℕ) (p : List ℕ) → at + length p ≤ length xs → length (written xs at p) ≡ length xs
 unfolding written
@@ -36,20 +33,9 @@ written_more xs at n p q m h =
     in
     rw (e0, e1, e2, append_assoc, append_assoc)
 
--- stores one after the other are a piece
-pub stored : (xs : List ℕ) (i : ℕ) (vs : List ℕ) → i + length vs ≤ length xs → sets xs i vs ≡ written xs i vs
-unfolding written
-stored xs i vs h = sets-eq vs xs i h ∙ append_assoc (take i xs) vs (drop (i + length vs) xs)
-
-pub copied : (s d : List ℕ) → take (length s) s ++ drop (length s) d ≡ written d 0 s
-unfolding written
-copied s d = ap (λ (l : List ℕ). l ++ drop (length s) d) (take-length s) ∙ ap (λ (k : ℕ). s ++ drop k d) (sym (zero-add (length s)))
-
--- the next piece, after p: what a callee that was lent the tail from m wrote there
-pub next : (xs : List ℕ) (at : ℕ) (p q x1 ys : List ℕ) (m n : ℕ) → x1 ≡ written xs at p → m ≡ at + length p → at + length p ≤ length xs → n ≡ length x1 - m → ys ≡ written (mid_of m n x1) 0 q → put_mid m n x1 ys ≡ written xs at (p ++ q)
-next xs at p q x1 ys m n e d h c w =
-    let l = ap length e ∙ length_written xs at p h in
-    tail_put x1 m n q ys (omega arith) c w ∙ ap (λ (z : List ℕ). written z m q) e ∙ written_more xs at m p q d h
+-- the next piece, after p: what was written over the k bytes from m on
+pub next : (xs : List ℕ) (at : ℕ) (p q x1 : List ℕ) (m k : ℕ) → x1 ≡ written xs at p → m ≡ at + length p → at + length p ≤ length xs → k ≡ length q → put_mid m k x1 q ≡ written xs at (p ++ q)
+next xs at p q x1 m k e d h c = put_here x1 m k q c ∙ ap (λ (z : List ℕ). written z m q) e ∙ written_more xs at m p q d h
 
 pub written_none : (xs : List ℕ) → xs ≡ written xs 0 []
 unfolding written

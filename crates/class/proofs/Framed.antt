@@ -6,7 +6,7 @@ use Prim.Native.Nat.{ℕ, ◌+◌, ◌-◌, ◌≤◌, ◌<◌}
 use native.Mathlib.Omega.{arith}
 use lib.ListN.{length, set, length-set}
 use Rattle.reads.specs.Answer.{Answer, accept, refuse, mapped}
-use Rattle.reads.proofs.Answers.{never, whole_only, refused_of}
+use Rattle.reads.proofs.Answers.{whole_only, refused_of}
 use Rattle.reads.proofs.Answers as answers
 use Rattle.pool.specs.Pool.{Pool}
 use Rattle.attributes.specs.declared.Attribute.{Attribute}
@@ -15,9 +15,10 @@ use Rattle.attributes.specs.Attributes.{record_at, body_end, framed}
 use Rattle.reads.proofs.Columns.{ahead, step, stop, done}
 use Rattle.attributes.proofs.Frames.{record_in}
 use Rattle.attributes.proofs.Tiled.{record_sound}
-use Rattle.class.specs.Columns.{Part, Titles, Bodies, Lengths, part, three, room_of}
-use Rattle.class.specs.Steps.{Accepted, after_records}
-use Rattle.class.proofs.Rows.{all_parts, parts_le}
+use Rattle.class.specs.Columns.{Part, Titles, Bodies, Lengths, part, room_of}
+use Rattle.reads.specs.Promise.{Accepted}
+use Rattle.class.specs.Steps.{AsLong, after_records}
+use Rattle.class.proofs.Rows.{parts_le}
 
 -- the byte that is reached at the end, and the columns there
 pub record Outcome : Type 0 where
@@ -45,15 +46,17 @@ module _ (own : Bool) (p : Pool) (count used start : ℕ) (c₀ : Part → List 
   Leaves x d = (x ≡ mapped (λ m. m.end) all) × Accepted all (after_records c₀ used) d
 
   -- from here on the same is left as from the start
-  pub record Sofar (room : ℕ) (c : Part → List ℕ) (at n left : ℕ) : Type 0 where
+  pub record Sofar (room : ℕ) (c : Part → List ℕ) (at n : ℕ) : Type 0 where
     pub room_is : room ≡ limit
-    pub long : (j : Part) → length (c j) ≡ length (c₀ j)
-    pub rest : mapped (outcome c n) (framed own p room left n at) ≡ mapped (outcome c₀ used) all
+    pub long : AsLong c c₀
+    pub rest : mapped (outcome c n) (framed own p room (used + count - n) n at) ≡ mapped (outcome c₀ used) all
 
-  pub begin : (room : ℕ) → room ≡ limit → Sofar room c₀ start used count
-  begin room e = record { room_is = e; long = λ j. refl; rest = ap (λ (r : ℕ). mapped (outcome c₀ used) (framed own p r count used start)) e }
+  pub begin : (room : ℕ) → room ≡ limit → Sofar room c₀ start used
+  begin room e =
+      let k : used + count - used ≡ count = omega arith in
+      record { room_is = e; long = λ j. refl; rest = λ i. mapped (outcome c₀ used) (framed own p (e i) (k i) used start) }
 
-  module _ (room : ℕ) (c : Part → List ℕ) (at n left : ℕ) (v : Sofar room c at n left) where
+  module _ (room : ℕ) (c : Part → List ℕ) (at n : ℕ) (v : Sofar room c at n) where
     -- an attribute that was judged good has its record in each column, and its body in the file
     pub in_columns : (a : Attribute) → accept a ≡ record_at own p room n at → (j : Part) → n < length (c j)
     in_columns a e j = omega (arith, record_in own p room n at a e, v.room_is, parts_le c₀ j, v.long j)
@@ -61,30 +64,26 @@ module _ (own : Bool) (p : Pool) (count used start : ℕ) (c₀ : Part → List 
     pub in_file : (a : Attribute) → accept a ≡ record_at own p room n at → a.start + a.size ≤ length p.file
     in_file a e = (record_sound own p room n at a e).inside
 
-    turned : (a : Attribute) → 0 < left → accept a ≡ record_at own p room n at → Sofar room (λ j. set (c j) n (part j a)) (body_end a at) (n + 1) (left - 1)
-    turned a h e = record {
-      room_is = v.room_is;
-      long = λ j. simp length-set (v.long j);
-      rest = ahead_outcome c n a (framed own p room (left - 1) (n + 1) (body_end a at)) ∙ sym (ap (mapped (outcome c n)) (step (record_at own p room) body_end left n at a h e)) ∙ v.rest;
-    }
+    turned : (a : Attribute) → n < used + count → accept a ≡ record_at own p room n at → Sofar room (λ j. set (c j) n (part j a)) (body_end a at) (n + 1)
+    turned a h e =
+        let k : used + count - (n + 1) ≡ used + count - n - 1 = omega arith in
+        record {
+          room_is = v.room_is;
+          long = λ j. simp length-set (v.long j);
+          rest = ap (λ (l : ℕ). mapped (outcome (λ j. set (c j) n (part j a)) (n + 1)) (framed own p room l (n + 1) (body_end a at))) k ∙ ahead_outcome c n a (framed own p room (used + count - n - 1) (n + 1) (body_end a at))
+              ∙ sym (ap (mapped (outcome c n)) (step (record_at own p room) body_end (used + count - n) n at a (omega arith) e)) ∙ v.rest;
+        }
 
-    pub turn : (a : Attribute) → 0 < left → accept a ≡ record_at own p room n at
-        → Sofar room (three (set (c Titles) n a.name) (set (c Bodies) n a.start) (set (c Lengths) n a.size)) (a.start + a.size) (n + 1) (left - 1)
-    turn a h e =
-        let new = three (set (c Titles) n a.name) (set (c Bodies) n a.start) (set (c Lengths) n a.size) in
-        let b = all_parts (λ j. set (c j) n (part j a) ≡ new j) refl refl refl in
-        subst (λ (d : Part → List ℕ). Sofar room d (body_end a at) (n + 1) (left - 1)) (λ i. λ j. b j i) (turned a h e)
+    pub turn : (a : Attribute) (d : Part → List ℕ) → n < used + count → accept a ≡ record_at own p room n at → d ≡ (λ j. set (c j) n (part j a)) → Sofar room d (a.start + a.size) (n + 1)
+    turn a d h e r = subst (λ (x : Part → List ℕ). Sofar room x (body_end a at) (n + 1)) (sym r) (turned a h e)
 
-    pub stopped : (nr place : ℕ) (d : Part → List ℕ) → 0 < left → refuse nr place ≡ record_at own p room n at → Leaves (refuse nr place) d
-    stopped nr place d h e =
-        let z = stop (record_at own p room) body_end left n at nr place h e in
-        let r = refused_of (outcome c₀ used) all nr place (ap (mapped (outcome c n)) z ∙ v.rest) in
-        (ap (mapped (λ m. m.end)) r, λ m g. absurd (never (g ∙ sym r)))
+    pub stopped : (nr place : ℕ) → n < used + count → refuse nr place ≡ record_at own p room n at → refuse nr place ≡ all
+    stopped nr place h e = refused_of (outcome c₀ used) all nr place (ap (mapped (outcome c n)) (stop (record_at own p room) body_end (used + count - n) n at nr place (omega arith) e) ∙ v.rest)
 
-    pub finished : left ≡ 0 → Leaves (accept at) c
+    pub finished : used + count ≤ n → Leaves (accept at) c
     unfolding placed
     finished h =
-        let z = done (record_at own p room) body_end left n at h in
+        let z = done (record_at own p room) body_end (used + count - n) n at (omega arith) in
         let w = whole_only (outcome c₀ used) all (outcome c n (record { list = []; end = at })) (ap (mapped (outcome c n)) z ∙ v.rest) in
         let o = sym w.2 in
         ((λ i. accept (o i).end) ∙ ap (mapped (λ m. m.end)) w.1, λ m g. (λ i. (o i).columns) ∙ ap (after_records c₀ used) (answers.same (w.1 ∙ sym g)))

@@ -9,7 +9,7 @@ use borrow.Author.Tests.{leb-true}
 use Rattle.reads.specs.Answer.{Answer, accept, refuse, mapped}
 use Rattle.reads.specs.Bytes.{u2}
 use Rattle.reads.specs.Tables.{padded, after}
-use Rattle.reads.proofs.Answers.{first, never, held, whole_only, refused_of}
+use Rattle.reads.proofs.Answers.{first, held, whole_only, refused_of}
 use Rattle.reads.proofs.Answers as answers
 use Rattle.reads.proofs.Leaves.{u2_in}
 use Rattle.pool.specs.declared.Head.{Head}
@@ -25,7 +25,8 @@ use Rattle.class_head.specs.Header.{class_at, head_at, interfaces_at}
 use Rattle.class_head.specs.Readings.{listed_of}
 use Rattle.class.specs.declared.Front.{Front as FrontValue}
 use Rattle.class.specs.Class.{Front, front_at}
-use Rattle.class.specs.Steps.{Accepted, Fronted, fronted}
+use Rattle.reads.specs.Promise.{Accepted}
+use Rattle.class.specs.Steps.{Fronted, fronted}
 use Rattle.class.specs.Readings.{front_of}
 
 -- ---- what an accepted pool says of the file
@@ -73,15 +74,12 @@ module _ (s : List ℕ) (room len : ℕ) where
   abbrev pub Fronts : Answer FrontValue → Fronted → Type 0
   Fronts x d = (x ≡ mapped front_of front) × Accepted front (fronted room len) d
 
-  none : (nr place : ℕ) (d : Fronted) → refuse nr place ≡ front → Fronts (refuse nr place) d
-  none nr place d e = (ap (mapped front_of) e, λ m g. absurd (never (g ∙ sym e)))
-
   poolless : (nr place : ℕ) → refuse nr place ≡ pool s room → refuse nr place ≡ front
   unfolding front_at
   poolless nr place e = rw (← e)
 
-  pub no_pool : (nr place : ℕ) (d : Fronted) → refuse nr place ≡ mapped head_of (pool s room) → Fronts (refuse nr place) d
-  no_pool nr place d e = none nr place d (poolless nr place (refused_of head_of (pool s room) nr place e))
+  pub no_pool : (nr place : ℕ) → refuse nr place ≡ mapped head_of (pool s room) → refuse nr place ≡ front
+  no_pool nr place e = poolless nr place (refused_of head_of (pool s room) nr place e)
 
   module _ (h : Head) (table : List ℕ) (e : accept h ≡ mapped head_of (pool s room)) (t : table ≡ after 0 (λ w. w.pool.cells) room (pool s room)) where
     abbrev got_pool : (w : Whole) × (accept w ≡ pool s room) × (head_of w ≡ h)
@@ -109,16 +107,16 @@ module _ (s : List ℕ) (room len : ℕ) where
     unfolding front_at
     headless nr place g = rw (← got_pool.1, ← g)
 
-    pub no_head : (nr place : ℕ) (d : Fronted) → refuse nr place ≡ head_at (seen_by h) h.next → Fronts (refuse nr place) d
-    no_head nr place d g = none nr place d (headless nr place (g ∙ same_head))
+    pub no_head : (nr place : ℕ) → refuse nr place ≡ head_at (seen_by h) h.next → refuse nr place ≡ front
+    no_head nr place g = headless nr place (g ∙ same_head)
 
     module _ (c : ClassHead) (g : accept c ≡ head_at (seen_by h) h.next) where
       listless : (nr place : ℕ) → refuse nr place ≡ interfaces_at w.pool len (w.next + 6) → refuse nr place ≡ front
       unfolding front_at
       listless nr place k = rw (← got_pool.1, ← (g ∙ same_head), ← k)
 
-      pub no_list : (nr place : ℕ) (d : Fronted) → refuse nr place ≡ mapped listed_of (interfaces_at (seen_by h) len (h.next + 6)) → Fronts (refuse nr place) d
-      no_list nr place d k = none nr place d (listless nr place (refused_of listed_of (interfaces_at (seen_by h) len (h.next + 6)) nr place k ∙ same_list))
+      pub no_list : (nr place : ℕ) → refuse nr place ≡ mapped listed_of (interfaces_at (seen_by h) len (h.next + 6)) → refuse nr place ≡ front
+      no_list nr place k = listless nr place (refused_of listed_of (interfaces_at (seen_by h) len (h.next + 6)) nr place k ∙ same_list)
 
       complete : (m : Many ℕ ℕ) → accept m ≡ interfaces_at w.pool len (w.next + 6) → accept (record { pool = w; head = c; interfaces = m.list; next = m.end }) ≡ front
       unfolding front_at

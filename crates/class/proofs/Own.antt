@@ -7,7 +7,7 @@ use native.Mathlib.Omega.{arith}
 use lib.ListN.{length, take, drop}
 use Rattle.reads.specs.Answer.{Answer, fine, accept, refuse, mapped}
 use Rattle.reads.specs.Bytes.{u2}
-use Rattle.reads.proofs.Answers.{first, never, whole_only, refused_of}
+use Rattle.reads.proofs.Answers.{first, whole_only, refused_of}
 use Rattle.reads.proofs.Answers as answers
 use Rattle.pool.specs.Pool.{Pool}
 use Rattle.attributes.specs.declared.Attribute.{Attribute}
@@ -17,7 +17,8 @@ use Rattle.reads.proofs.Columns.{placed_part, made, roomy}
 use Rattle.attributes.proofs.Frames.{record_in}
 use Rattle.class.specs.Class.{end_at, own_at}
 use Rattle.class.specs.Columns.{Part, Titles, Bodies, part, three, room_of}
-use Rattle.class.specs.Steps.{Accepted, after_records}
+use Rattle.reads.specs.Promise.{Accepted}
+use Rattle.class.specs.Steps.{after_records}
 use Rattle.class.proofs.Rows.{map_length, parts_le}
 
 module _ (p : Pool) (used at : ℕ) (t u v : List ℕ) where
@@ -31,15 +32,9 @@ module _ (p : Pool) (used at : ℕ) (t u v : List ℕ) where
   abbrev pub Leaves : Answer ℕ → (Part → List ℕ) → Type 0
   Leaves x d = (x ≡ mapped (λ m. length m.list) own) × Accepted own (after_records (three t u v) used) d
 
-  none : (nr place : ℕ) (d : Part → List ℕ) → refuse nr place ≡ own → Leaves (refuse nr place) d
-  none nr place d e = (ap (mapped (λ m. length m.list)) e, λ m g. absurd (never (g ∙ sym e)))
-
-  countless : (nr place : ℕ) → refuse nr place ≡ u2 p.file at → refuse nr place ≡ own
+  pub no_count : (nr place : ℕ) → refuse nr place ≡ u2 p.file at → refuse nr place ≡ own
   unfolding own_at
-  countless nr place e = rw (← e)
-
-  pub no_count : (nr place : ℕ) (d : Part → List ℕ) → refuse nr place ≡ u2 p.file at → Leaves (refuse nr place) d
-  no_count nr place d e = none nr place d (countless nr place e)
+  no_count nr place e = rw (← e)
 
   module _ (count : ℕ) (e : accept count ≡ u2 p.file at) (room : used ≤ limit) where
     abbrev pub framing : Answer (Many Attribute ℕ)
@@ -57,8 +52,8 @@ module _ (p : Pool) (used at : ℕ) (t u v : List ℕ) where
     unfolding own_at
     ended m g h = rw (← e, ← g, ← h)
 
-    pub no_frames : (nr place : ℕ) (d : Part → List ℕ) → refuse nr place ≡ mapped (λ m. m.end) framing → Leaves (refuse nr place) d
-    no_frames nr place d h = none nr place d (not_framed nr place (refused_of (λ (m : Many Attribute ℕ). m.end) framing nr place h))
+    pub no_frames : (nr place : ℕ) → refuse nr place ≡ mapped (λ m. m.end) framing → refuse nr place ≡ own
+    no_frames nr place h = not_framed nr place (refused_of (λ (m : Many Attribute ℕ). m.end) framing nr place h)
 
     module _ (end : ℕ) (h : accept end ≡ mapped (λ m. m.end) framing) (t' u' v' : List ℕ) (q : Accepted framing (after_records (three t u v) used) (three t' u' v')) where
       abbrev found : (m : Many Attribute ℕ) × (accept m ≡ framing) × (m.end ≡ end)
@@ -88,8 +83,8 @@ module _ (p : Pool) (used at : ℕ) (t u v : List ℕ) where
           let b = in_column Bodies in
           λ i. end_at p (sym found.2 i) (a i) (b i)
 
-      pub bad_end : (nr place : ℕ) (d : Part → List ℕ) → refuse nr place ≡ end_at p end (take count (drop used t')) (take count (drop used u')) → Leaves (refuse nr place) d
-      bad_end nr place d g = none nr place d (not_ended found.0 nr place found.1 (g ∙ judged))
+      pub bad_end : (nr place : ℕ) → refuse nr place ≡ end_at p end (take count (drop used t')) (take count (drop used u')) → refuse nr place ≡ own
+      bad_end nr place g = not_ended found.0 nr place found.1 (g ∙ judged)
 
       pub good_end : fine ≡ end_at p end (take count (drop used t')) (take count (drop used u')) → Leaves (accept count) (three t' u' v')
       good_end g =

@@ -5,7 +5,7 @@ use Prim.Native.Nat.{ℕ, suc, ◌+◌, ◌-◌, ◌≤◌, ◌<◌, min}
 use native.Mathlib.Omega.{arith}
 use native.Mathlib.Nat.{sub_self, min-le_left, min-le_right}
 use mathlib.Core.Bool.{false}
-use lib.ListN.{length, set, replicate, take, drop, length-drop}
+use lib.ListN.{length, set, take, drop, length-drop}
 use lib.Seq.{drop-set-add, take-suc-set}
 use Rattle.reads.specs.Answer.{Answer, accept, refuse, mapped}
 use Rattle.reads.specs.Bytes.{u2}
@@ -25,9 +25,14 @@ use Rattle.member.proofs.Inside.{member_in}
 use Rattle.reads.proofs.Placed.{placed_append}
 use Rattle.class.specs.declared.Sorted.{Sorted}
 use Rattle.class.specs.Members.{Whole, Reached, whole_at, reach, begun_at, members_of, sort_at}
-use Rattle.class.specs.Columns.{Number, Flags, Names, Types, Firsts, Counts, Part, Titles, Bodies, Lengths, number, part, Columns, three, lent, member_room, room_of, attribute_room, gathered, of_each, each_column, zeros}
-use Rattle.class.specs.Steps.{Accepted, Ready, after_one, after_many, after_records, between, reached_at}
+use Rattle.class.specs.Columns.{Number, Flags, Names, Types, Firsts, Counts, Part, Titles, Bodies, Lengths, number, part, Columns, member_room, room_of, attribute_room, gathered, of_each, each_column}
+use Rattle.reads.specs.Promise.{Accepted}
+use Rattle.class.specs.Steps.{Long, rows, only, Ready, after_one, after_many, after_records, between, reached_at}
 use Rattle.class.specs.Readings.{sorted_of}
+
+-- a refusal leaves what it leaves
+pub refuses : {X C : Type 0} {x : Answer X} {nr place : ℕ} (f : X → C) (d : C) → refuse nr place ≡ x → Accepted x f d
+refuses f d e a g = absurd (never (g ∙ sym e))
 
 -- ---- all columns
 
@@ -42,11 +47,6 @@ pub all_parts : (P : Part → Type 0) → P Titles → P Bodies → P Lengths �
 all_parts P a b c Titles = a
 all_parts P a b c Bodies = b
 all_parts P a b c Lengths = c
-
--- columns of the same lengths
-pub record Long (c d : Columns) : Type 0 where
-  pub members : (k : Number) → length (c.member k) ≡ length (d.member k)
-  pub attributes : (k : Part) → length (c.attribute k) ≡ length (d.attribute k)
 
 pub long_refl : (c : Columns) → Long c c
 long_refl c = record { members = λ k. refl; attributes = λ k. refl }
@@ -64,6 +64,10 @@ same_limit c d l = λ i. min (min (l.attributes Titles i) (l.attributes Bodies i
 pub same_room : (c d : Columns) → Long c d → member_room c ≡ member_room d
 unfolding member_room
 same_room c d l = λ i. min (l.members Flags i) (min (l.members Names i) (min (l.members Types i) (min (l.members Firsts i) (l.members Counts i))))
+
+pub room_rows : (c : Columns) → member_room (rows c.member) ≡ member_room c
+unfolding member_room
+room_rows c = refl
 
 -- each column has the room
 lower : (x a b : ℕ) → x ≤ min a b → (x ≤ a) × (x ≤ b)
@@ -89,29 +93,6 @@ parts_le c =
 
 pub limit_le : (c : Columns) (k : Part) → attribute_room c ≤ length (c.attribute k)
 limit_le c = parts_le c.attribute
-
--- the room that the code reckons
-pub reckoned : (c : Columns) (r : ℕ) → r ≡ min (length (c.member Flags)) (min (length (c.member Names)) (min (length (c.member Types)) (min (length (c.member Firsts)) (length (c.member Counts))))) → r ≡ member_room c
-unfolding member_room
-reckoned c r e = e
-
--- columns as long as the others, and cleared, column by column
-pub as_long : (c d : Columns)
-    → length (c.member Flags) ≡ length (d.member Flags) → length (c.member Names) ≡ length (d.member Names) → length (c.member Types) ≡ length (d.member Types) → length (c.member Firsts) ≡ length (d.member Firsts) → length (c.member Counts) ≡ length (d.member Counts)
-    → length (c.attribute Titles) ≡ length (d.attribute Titles) → length (c.attribute Bodies) ≡ length (d.attribute Bodies) → length (c.attribute Lengths) ≡ length (d.attribute Lengths) → Long c d
-as_long c d flags names types firsts counts titles bodies lengths = record {
-  members = all_numbers (λ k. length (c.member k) ≡ length (d.member k)) flags names types firsts counts;
-  attributes = all_parts (λ k. length (c.attribute k) ≡ length (d.attribute k)) titles bodies lengths;
-}
-
-pub cleared : (c d : Columns)
-    → d.member Flags ≡ replicate (length (c.member Flags)) 0 → d.member Names ≡ replicate (length (c.member Names)) 0 → d.member Types ≡ replicate (length (c.member Types)) 0
-    → d.member Firsts ≡ replicate (length (c.member Firsts)) 0 → d.member Counts ≡ replicate (length (c.member Counts)) 0
-    → d.attribute Titles ≡ replicate (length (c.attribute Titles)) 0 → d.attribute Bodies ≡ replicate (length (c.attribute Bodies)) 0 → d.attribute Lengths ≡ replicate (length (c.attribute Lengths)) 0 → d ≡ zeros c
-cleared c d flags names types firsts counts titles bodies lengths =
-    let m = all_numbers (λ k. d.member k ≡ replicate (length (c.member k)) 0) flags names types firsts counts in
-    let a = all_parts (λ k. d.attribute k ≡ replicate (length (c.attribute k)) 0) titles bodies lengths in
-    λ i. record { member = λ k. m k i; attribute = λ k. a k i }
 
 -- ---- one member
 
@@ -183,7 +164,10 @@ between_set l a n x h g =
 
 -- ---- the loop
 
-module _ (k : Sort) (p : Pool) (room begun start before count : ℕ) (c₀ : Columns) where
+module _ (k : Sort) (p : Pool) (begun start before count : ℕ) (c₀ : Columns) where
+  abbrev room : ℕ
+  room = member_room c₀
+
   abbrev limit : ℕ
   limit = attribute_room c₀
 
@@ -199,46 +183,63 @@ module _ (k : Sort) (p : Pool) (room begun start before count : ℕ) (c₀ : Col
   abbrev pub Leaves : Answer Sorted → Columns → Type 0
   Leaves x d = (x ≡ mapped sorted_of (sort_at k p room limit begun start before)) × Accepted (sort_at k p room limit begun start before) (after_many c₀ begun before) d
 
-  pub no_count : (nr place : ℕ) (d : Columns) → refuse nr place ≡ u2 p.file start → Leaves (refuse nr place) d
+  pub no_count : (nr place : ℕ) → refuse nr place ≡ u2 p.file start → refuse nr place ≡ sort_at k p room limit begun start before
   unfolding sort_at
-  no_count nr place d e = rw (← e) (refl, λ m g. absurd (never g))
+  no_count nr place e = rw (← e)
 
   -- from here on the same is left as from the start
-  pub record Sofar (c : Columns) (at used n left : ℕ) : Type 0 where
-    pub ready : Ready p.file room n at used c
+  pub record Sofar (c : Columns) (at used n : ℕ) : Type 0 where
+    pub ready : Ready p.file n at used c
     pub begins : begun ≤ n
     pub long : Long c c₀
-    pub rest : mapped (outcome c n used) (left_of c at used n left) ≡ mapped (outcome c₀ begun before) all
+    pub rest : mapped (outcome c n used) (left_of c at used n (begun + count - n)) ≡ mapped (outcome c₀ begun before) all
 
-  pub begin : Ready p.file room begun start before c₀ → Sofar c₀ (start + 2) before begun count
+  pub begin : Ready p.file begun start before c₀ → Sofar c₀ (start + 2) before begun
   begin r =
       let z : begun - begun ≡ 0 = sub_self begun in
+      let l : begun + count - begun ≡ count = omega arith in
       record {
-        ready = record { short = r.short; roomy = r.roomy; behind = omega (arith, r.behind); room_is = r.room_is };
+        ready = record { short = r.short; roomy = r.roomy; behind = omega (arith, r.behind) };
         begins = omega arith;
         long = long_refl c₀;
-        rest = rw z refl;
+        rest = rw l (rw z refl);
       }
 
-  module _ (c : Columns) (at used n left : ℕ) (v : Sofar c at used n left) where
+  module _ (c : Columns) (at used n : ℕ) (v : Sofar c at used n) where
+    abbrev left : ℕ
+    left = begun + count - n
+
     abbrev s : Reached
     s = reached_at at used begun n c
 
-    abbrev pub judged : Answer Member
+    -- as the code asks
+    abbrev pub asked : Answer Member
+    asked = member_at k p (member_room (rows c.member)) n at s.names s.types
+
+    abbrev judged : Answer Member
     judged = member_at k p room n at s.names s.types
+
+    as_asked : asked ≡ judged
+    as_asked = ap (λ (r : ℕ). member_at k p r n at s.names s.types) (room_rows c ∙ same_room c c₀ v.long)
 
     abbrev pub framing : Member → Answer (Many Attribute ℕ)
     framing m = framed false p (attribute_room c) m.count used (at + 8)
 
     -- record n has its place in each column
     pub up_to : (j : Number) → n ≤ length (c.member j)
-    up_to j = omega (arith, v.ready.roomy, v.ready.room_is, room_le c j)
+    up_to j = omega (arith, v.ready.roomy, room_le c j)
 
-    pub in_room : (m : Member) → accept m ≡ judged → (at + 8 ≤ length p.file) × (n < room)
+    in_room : (m : Member) → accept m ≡ judged → (at + 8 ≤ length p.file) × (n < room)
     in_room m e = let i = member_in k p room n at s.names s.types m e in (i.1, i.0)
 
-    pub in_columns : n < room → (j : Number) → n < length (c.member j)
-    in_columns h j = omega (arith, h, v.ready.room_is, room_le c j)
+    pub in_file : (m : Member) → accept m ≡ asked → at + 8 ≤ length p.file
+    in_file m e = (in_room m (e ∙ as_asked)).0
+
+    in_columns : n < room → (j : Number) → n < length (c.member j)
+    in_columns h j = omega (arith, h, same_room c c₀ v.long, room_le c j)
+
+    pub has_record : (m : Member) → accept m ≡ asked → (j : Number) → n < length (c.member j)
+    has_record m e = in_columns (in_room m (e ∙ as_asked)).1
 
     framed_as : (m : Member) → framed false p limit m.count used (at + 8) ≡ framing m
     framed_as m = ap (λ (l : ℕ). framed false p l m.count used (at + 8)) (sym (same_limit c c₀ v.long))
@@ -267,32 +268,32 @@ module _ (k : Sort) (p : Pool) (room begun start before count : ℕ) (c₀ : Col
         step (whole_at k p room limit) reach left n s w h e
         ∙ ap (λ (q : Reached). ahead w (members_of k p room limit (left - 1) (n + 1) q)) (λ i. record { at = w.next; used = used + w.member.count; names = sym b i; types = sym d i })
 
-    turned : (w : Whole) → 0 < left → accept w ≡ whole_at k p room limit n s → Sofar (after_one c n used w) w.next (used + w.member.count) (n + 1) (left - 1)
+    turned : (w : Whole) → n < begun + count → accept w ≡ whole_at k p room limit n s → Sofar (after_one c n used w) w.next (used + w.member.count) (n + 1)
     turned w h e =
         let i = whole_in k p room limit n s w e in
-        let x = left_of (after_one c n used w) w.next (used + w.member.count) (n + 1) (left - 1) in
-        let l = long_placed c c n used (λ f. f w ∷ []) (λ f. of_each f w) (long_refl c) in
+        let z : begun + count - (n + 1) ≡ left - 1 = omega arith in
+        let x = left_of (after_one c n used w) w.next (used + w.member.count) (n + 1) in
+        let l = long_placed c c₀ n used (λ f. f w ∷ []) (λ f. of_each f w) v.long in
         let r = v.ready in
         record {
-          ready = record { short = r.short; roomy = omega (arith, i.fits); behind = omega (arith, r.behind, i.moved); room_is = r.room_is ∙ sym (same_room (after_one c n used w) c l) };
+          ready = record { short = r.short; roomy = omega (arith, i.fits, same_room (after_one c n used w) c₀ l); behind = omega (arith, r.behind, i.moved) };
           begins = omega (arith, v.begins);
-          long = long_placed c c₀ n used (λ f. f w ∷ []) (λ f. of_each f w) v.long;
-          rest = ahead_outcome c n used w x i.count ∙ sym (ap (mapped (outcome c n used)) (stepped w h e i.fits)) ∙ v.rest;
+          long = l;
+          rest = ap (λ (y : ℕ). mapped (outcome (after_one c n used w) (n + 1) (used + w.member.count)) (x y)) z ∙ ahead_outcome c n used w (x (left - 1)) i.count
+              ∙ sym (ap (mapped (outcome c n used)) (stepped w (omega arith) e i.fits)) ∙ v.rest;
         }
 
-    pub turn : (m : Member) (next : ℕ) (titles bodies lengths : List ℕ) → 0 < left → accept m ≡ judged → accept next ≡ mapped (λ f. f.end) (framing m)
-        → Accepted (framing m) (after_records c.attribute used) (three titles bodies lengths)
-        → Sofar (lent (set (c.member Flags) n m.flags) (set (c.member Names) n m.name) (set (c.member Types) n m.descriptor) (set (c.member Firsts) n used) (set (c.member Counts) n m.count) titles bodies lengths) next (used + m.count) (n + 1) (left - 1)
+    pub turn : (m : Member) (next : ℕ) (d : Columns) → n < begun + count → accept m ≡ asked → accept next ≡ mapped (λ f. f.end) (framing m)
+        → d.member ≡ (λ j. set (c.member j) n (number j (only m used))) → Accepted (framing m) (after_records c.attribute used) d.attribute → Sofar d next (used + m.count) (n + 1)
     unfolding placed
-    turn m next titles bodies lengths h e g q =
+    turn m next d h e g b q =
         let f = whole_only (λ (x : Many Attribute ℕ). x.end) (framing m) next g in
         let w : Whole = record { member = m; first = used; attributes = f.0.list; next = f.0.end } in
-        let t = turned w h (is_whole m f.0 e (f.1 ∙ sym (framed_as m))) in
-        let new = lent (set (c.member Flags) n m.flags) (set (c.member Names) n m.name) (set (c.member Types) n m.descriptor) (set (c.member Firsts) n used) (set (c.member Counts) n m.count) titles bodies lengths in
-        let a : three titles bodies lengths ≡ after_records c.attribute used f.0 = q f.0 f.1 in
-        let b = all_numbers (λ j. new.member j ≡ placed (c.member j) n (number j w ∷ [])) refl refl refl refl refl in
-        let d : new ≡ after_one c n used w = λ i. record { member = λ j. b j i; attribute = a i } in
-        subst (λ (x : ℕ). Sofar new x (used + m.count) (n + 1) (left - 1)) f.2 (subst (λ (y : Columns). Sofar y f.0.end (used + m.count) (n + 1) (left - 1)) (sym d) t)
+        let t = turned w h (is_whole m f.0 (e ∙ as_asked) (f.1 ∙ sym (framed_as m))) in
+        let same = all_numbers (λ j. number j (only m used) ≡ number j w) refl refl refl refl refl in
+        let a : d.attribute ≡ after_records c.attribute used f.0 = q f.0 f.1 in
+        let o : d ≡ after_one c n used w = λ i. record { member = (b ∙ (λ l. λ j. set (c.member j) n (same j l))) i; attribute = a i } in
+        subst (λ (x : ℕ). Sofar d x (used + m.count) (n + 1)) f.2 (subst (λ (y : Columns). Sofar y f.0.end (used + m.count) (n + 1)) (sym o) t)
 
     -- ---- the ends
 
@@ -301,22 +302,19 @@ module _ (k : Sort) (p : Pool) (room begun start before count : ℕ) (c₀ : Col
       unfolding sort_at
       at_sort = rw (← e₀)
 
-      broken : (nr place : ℕ) (d : Columns) → 0 < left → refuse nr place ≡ whole_at k p room limit n s → Leaves (refuse nr place) d
-      broken nr place d h e =
-          let z = stop (whole_at k p room limit) reach left n s nr place h e in
-          let r = refused_of (outcome c₀ begun before) all nr place (ap (mapped (outcome c n used)) z ∙ v.rest) ∙ at_sort in
-          (ap (mapped sorted_of) r, λ m g. absurd (never (g ∙ sym r)))
+      broken : (nr place : ℕ) → n < begun + count → refuse nr place ≡ whole_at k p room limit n s → refuse nr place ≡ sort_at k p room limit begun start before
+      broken nr place h e = refused_of (outcome c₀ begun before) all nr place (ap (mapped (outcome c n used)) (stop (whole_at k p room limit) reach left n s nr place (omega arith) e) ∙ v.rest) ∙ at_sort
 
-      pub not_good : (nr place : ℕ) (d : Columns) → 0 < left → refuse nr place ≡ judged → Leaves (refuse nr place) d
-      not_good nr place d h e = broken nr place d h (no_member nr place e)
+      pub not_good : (nr place : ℕ) → n < begun + count → refuse nr place ≡ asked → refuse nr place ≡ sort_at k p room limit begun start before
+      not_good nr place h e = broken nr place h (no_member nr place (e ∙ as_asked))
 
-      pub not_framed : (m : Member) (nr place : ℕ) (d : Columns) → 0 < left → accept m ≡ judged → refuse nr place ≡ mapped (λ f. f.end) (framing m) → Leaves (refuse nr place) d
-      not_framed m nr place d h e g = broken nr place d h (no_frames m nr place e (refused_of (λ (f : Many Attribute ℕ). f.end) (framing m) nr place g ∙ sym (framed_as m)))
+      pub not_framed : (m : Member) (nr place : ℕ) → n < begun + count → accept m ≡ asked → refuse nr place ≡ mapped (λ f. f.end) (framing m) → refuse nr place ≡ sort_at k p room limit begun start before
+      not_framed m nr place h e g = broken nr place h (no_frames m nr place (e ∙ as_asked) (refused_of (λ (f : Many Attribute ℕ). f.end) (framing m) nr place g ∙ sym (framed_as m)))
 
-      pub finished : left ≡ 0 → Leaves (accept (record { count = count; at = at; used = used })) c
+      pub finished : begun + count ≤ n → Leaves (accept (record { count = count; at = at; used = used })) c
       unfolding placed
       finished h =
-          let z = done (whole_at k p room limit) reach left n s h in
+          let z = done (whole_at k p room limit) reach left n s (omega arith) in
           let w = whole_only (outcome c₀ begun before) all (outcome c n used (record { list = []; end = s })) (ap (mapped (outcome c n used)) z ∙ v.rest) in
           let l = made (whole_at k p room limit) reach count begun (begun_at (start + 2) before) w.0 w.1 in
           let o = sym w.2 in

@@ -7,7 +7,7 @@ use native.Mathlib.Omega.{arith}
 use lib.ListN.{length, length-append}
 use Rattle.reads.specs.Answer.{Answer, accept, refuse, mapped}
 use Rattle.reads.specs.Bytes.{u2}
-use Rattle.reads.proofs.Answers.{first, never, whole_only, refused_of}
+use Rattle.reads.proofs.Answers.{first, whole_only, refused_of}
 use Rattle.reads.proofs.Answers as answers
 use Rattle.pool.specs.Pool.{Pool}
 use Rattle.attributes.specs.declared.Attribute.{Attribute}
@@ -21,9 +21,10 @@ use Rattle.class.specs.declared.Class.{Class}
 use Rattle.class.specs.Members.{Whole, Reached, a_field, a_method, whole_at, reach, begun_at, members_of, sort_at}
 use Rattle.class.specs.Class.{Tables, marked, class_flags, own_at, tables_at}
 use Rattle.class.specs.Columns.{Number, Part, number, part, Columns, member_room, attribute_room, gathered, of_each, member_cells, attribute_cells}
-use Rattle.class.specs.Steps.{Accepted, Ready, after_many, after_records, after_all}
+use Rattle.reads.specs.Promise.{Accepted}
+use Rattle.class.specs.Steps.{Long, Ready, after_many, after_records, after_all}
 use Rattle.class.specs.Readings.{sorted_of, filled_of}
-use Rattle.class.proofs.Rows.{map_length, whole_in, Long, long_refl, long_placed, same_limit, same_room}
+use Rattle.class.proofs.Rows.{map_length, whole_in, long_refl, long_placed, same_limit, same_room}
 use Rattle.class.proofs.Own.{own_in}
 
 -- ---- what is reached after members in order
@@ -109,7 +110,10 @@ tables_in interface p room limit at t e =
 
 -- ---- the code's steps
 
-module _ (f : Front) (p : Pool) (c : Columns) (room : ℕ) (er : room ≡ member_room c) (interface : Bool) (ei : interface ≡ marked f.flags) (short : length p.file ≤ 16777216) where
+module _ (f : Front) (p : Pool) (c : Columns) (interface : Bool) (ei : interface ≡ marked f.flags) (short : length p.file ≤ 16777216) where
+  abbrev room : ℕ
+  room = member_room c
+
   abbrev limit : ℕ
   limit = attribute_room c
 
@@ -117,22 +121,17 @@ module _ (f : Front) (p : Pool) (c : Columns) (room : ℕ) (er : room ≡ member
   at = f.next
 
   abbrev whole : Answer Tables
-  whole = tables_at (marked f.flags) p (member_room c) limit at
+  whole = tables_at (marked f.flags) p room limit at
 
   -- what the call answers, and what it leaves where it accepts
   abbrev pub Leaves : Answer Class → Columns → Type 0
   Leaves x d = (x ≡ mapped (filled_of f) whole) × Accepted whole (after_all c) d
 
   as_asked : tables_at interface p room limit at ≡ whole
-  as_asked = λ i. tables_at (ei i) p (er i) limit at
+  as_asked = λ i. tables_at (ei i) p room limit at
 
-  none : (nr place : ℕ) (d : Columns) → refuse nr place ≡ tables_at interface p room limit at → Leaves (refuse nr place) d
-  none nr place d e =
-      let w = e ∙ as_asked in
-      (ap (mapped (filled_of f)) w, λ m g. absurd (never (g ∙ sym w)))
-
-  pub ready_fields : Ready p.file room 0 at 0 c
-  ready_fields = record { short = short; roomy = omega arith; behind = omega arith; room_is = er }
+  pub ready_fields : Ready p.file 0 at 0 c
+  ready_fields = record { short = short; roomy = omega arith; behind = omega arith }
 
   abbrev fields : Answer (Many Whole Reached)
   fields = sort_at a_field p room limit 0 at 0
@@ -141,8 +140,8 @@ module _ (f : Front) (p : Pool) (c : Columns) (room : ℕ) (er : room ≡ member
   unfolding tables_at
   fieldless nr place e = rw (← e)
 
-  pub no_fields : (nr place : ℕ) (d : Columns) → refuse nr place ≡ mapped sorted_of fields → Leaves (refuse nr place) d
-  no_fields nr place d e = none nr place d (fieldless nr place (refused_of sorted_of fields nr place e))
+  pub no_fields : (nr place : ℕ) → refuse nr place ≡ mapped sorted_of fields → refuse nr place ≡ whole
+  no_fields nr place e = fieldless nr place (refused_of sorted_of fields nr place e) ∙ as_asked
 
   module _ (a : Sorted) (c₁ : Columns) (e₁ : accept a ≡ mapped sorted_of fields) (h₁ : Accepted fields (after_many c 0 0) c₁) where
     abbrev got_fields : (m : Many Whole Reached) × (accept m ≡ fields) × (sorted_of m ≡ a)
@@ -160,26 +159,26 @@ module _ (f : Front) (p : Pool) (c : Columns) (room : ℕ) (er : room ≡ member
     long₁ : Long c₁ c
     long₁ = subst (λ (x : Columns). Long x c) (sym placed_fields) (long_placed c c 0 0 (λ g. map g fs.list) (λ g. gathered (of_each g) fs.list) (long_refl c))
 
-    pub ready_methods : Ready p.file room a.count a.at a.used c₁
+    pub ready_methods : Ready p.file a.count a.at a.used c₁
     ready_methods =
-        subst (λ (x : Sorted). Ready p.file room x.count x.at x.used c₁) got_fields.2
-        (record { short = short; roomy = omega (arith, in_fields.fits (omega arith)); behind = in_fields.ends.behind (omega arith); room_is = er ∙ sym (same_room c₁ c long₁) })
+        subst (λ (x : Sorted). Ready p.file x.count x.at x.used c₁) got_fields.2
+        (record { short = short; roomy = omega (arith, in_fields.fits (omega arith), same_room c₁ c long₁); behind = in_fields.ends.behind (omega arith) })
 
-    abbrev methods_of : ℕ → Sorted → Answer (Many Whole Reached)
-    methods_of l x = sort_at (a_method interface) p room l x.count x.at x.used
+    abbrev methods_of : ℕ → ℕ → Sorted → Answer (Many Whole Reached)
+    methods_of r l x = sort_at (a_method interface) p r l x.count x.at x.used
 
     abbrev methods : Answer (Many Whole Reached)
-    methods = methods_of (attribute_room c₁) a
+    methods = methods_of (member_room c₁) (attribute_room c₁) a
 
-    same₁ : methods ≡ methods_of limit (sorted_of fs)
-    same₁ = λ i. methods_of (same_limit c₁ c long₁ i) (sym got_fields.2 i)
+    same₁ : methods ≡ methods_of room limit (sorted_of fs)
+    same₁ = λ i. methods_of (same_room c₁ c long₁ i) (same_limit c₁ c long₁ i) (sym got_fields.2 i)
 
-    methodless : (nr place : ℕ) → refuse nr place ≡ methods_of limit (sorted_of fs) → refuse nr place ≡ tables_at interface p room limit at
+    methodless : (nr place : ℕ) → refuse nr place ≡ methods_of room limit (sorted_of fs) → refuse nr place ≡ tables_at interface p room limit at
     unfolding tables_at
     methodless nr place e = rw (← got_fields.1, ← e)
 
-    pub no_methods : (nr place : ℕ) (d : Columns) → refuse nr place ≡ mapped sorted_of methods → Leaves (refuse nr place) d
-    no_methods nr place d e = none nr place d (methodless nr place (refused_of sorted_of methods nr place e ∙ same₁))
+    pub no_methods : (nr place : ℕ) → refuse nr place ≡ mapped sorted_of methods → refuse nr place ≡ whole
+    no_methods nr place e = methodless nr place (refused_of sorted_of methods nr place e ∙ same₁) ∙ as_asked
 
     module _ (b : Sorted) (c₂ : Columns) (e₂ : accept b ≡ mapped sorted_of methods) (h₂ : Accepted methods (after_many c₁ a.count a.used) c₂) where
       abbrev got_methods : (m : Many Whole Reached) × (accept m ≡ methods) × (sorted_of m ≡ b)
@@ -202,8 +201,11 @@ module _ (f : Front) (p : Pool) (c : Columns) (room : ℕ) (er : room ≡ member
       used_is : ms.end.used ≡ b.used
       used_is = ap (λ (x : Sorted). x.used) got_methods.2
 
-      pub room_own : b.used ≤ attribute_room c₂
-      room_own = omega (arith, in_methods.ends.within (in_fields.ends.within (omega arith)), used_is, same_limit c₂ c long₂)
+      pub ready_own : (b.used ≤ b.at) × (b.used ≤ attribute_room c₂)
+      ready_own = (
+        subst (λ (x : Sorted). x.used ≤ x.at) got_methods.2 (in_methods.ends.behind (omega (arith, in_fields.ends.behind (omega arith)))),
+        omega (arith, in_methods.ends.within (in_fields.ends.within (omega arith)), used_is, same_limit c₂ c long₂),
+      )
 
       abbrev own_of : ℕ → Sorted → Answer (Many Attribute ℕ)
       own_of l x = own_at p l x.used x.at
@@ -218,8 +220,8 @@ module _ (f : Front) (p : Pool) (c : Columns) (room : ℕ) (er : room ≡ member
       unfolding tables_at
       ownless nr place e = rw (← got_fields.1, ← (got_methods.1 ∙ same₁), ← e)
 
-      pub no_own : (nr place : ℕ) (d : Columns) → refuse nr place ≡ mapped (λ m. length m.list) own → Leaves (refuse nr place) d
-      no_own nr place d e = none nr place d (ownless nr place (refused_of (λ (m : Many Attribute ℕ). length m.list) own nr place e ∙ same₂))
+      pub no_own : (nr place : ℕ) → refuse nr place ≡ mapped (λ m. length m.list) own → refuse nr place ≡ whole
+      no_own nr place e = ownless nr place (refused_of (λ (m : Many Attribute ℕ). length m.list) own nr place e ∙ same₂) ∙ as_asked
 
       complete : (o : Many Attribute ℕ) → accept o ≡ own_of limit (sorted_of ms) → accept (record { fields = fs.list; methods = ms.list; used = ms.end.used; own = o.list }) ≡ tables_at interface p room limit at
       unfolding tables_at

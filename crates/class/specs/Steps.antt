@@ -1,16 +1,14 @@
 -- The code's own notion: what its steps ask for and leave behind. Assumes nothing.
-use Rattle.std.specs.Prelude.{ℕ, ◌-◌, ◌≤◌, ◌≡◌, List, [], ◌∷◌, map, length, take, drop}
-use Rattle.reads.specs.Answer.{Answer, accept}
+use Rattle.std.specs.Prelude.{ℕ, ◌-◌, ◌≤◌, ◌<◌, ◌≡◌, List, [], ◌∷◌, map, length, take, drop}
 use Rattle.reads.specs.Records.{Many, placed}
 use Rattle.attributes.specs.declared.Attribute.{Attribute}
+use Rattle.member.specs.declared.Member.{Member}
+use Rattle.class.specs.declared.MemberColumns.{MemberColumns}
+use Rattle.class.specs.declared.AttributeColumns.{AttributeColumns}
 use Rattle.class.specs.Members.{Whole, Reached}
 use Rattle.reads.specs.Tables.{padded}
 use Rattle.class.specs.Class.{Front, Tables}
-use Rattle.class.specs.Columns.{Columns, Names, Types, Part, part, member_room, gathered, of_each, each_column, member_cells, attribute_cells}
-
--- where an answer was accepted the columns are as `f` says; nothing is said of them after a refusal
-abbrev pub Accepted : {X C : Type 0} → Answer X → (X → C) → C → Type 0
-Accepted {X} x f d = (a : X) → accept a ≡ x → d ≡ f a
+use Rattle.class.specs.Columns.{Number, Columns, Names, Types, Part, part, five, three, room_of, member_room, gathered, of_each, each_column, member_cells, attribute_cells}
 
 -- after one member that became record n, its attributes records from `used` on
 abbrev pub after_one : Columns → ℕ → ℕ → Whole → Columns
@@ -44,9 +42,56 @@ between a e l = take (e - a) (drop a l)
 abbrev pub reached_at : ℕ → ℕ → ℕ → ℕ → Columns → Reached
 reached_at at used first n c = record { at = at; used = used; names = between first n (c.member Names); types = between first n (c.member Types) }
 
--- what a step needs: the file is not too long, records up to n and attribute records up to `used` are made, and the room is that of the columns
-pub record Ready (file : List ℕ) (room n at used : ℕ) (c : Columns) : Type 0 where
+-- what a step needs: the file is not too long, and records up to n and attribute records up to `used` are made
+pub record Ready (file : List ℕ) (n at used : ℕ) (c : Columns) : Type 0 where
   pub short : length file ≤ 16777216
-  pub roomy : n ≤ room
+  pub roomy : n ≤ member_room c
   pub behind : used ≤ at
-  pub room_is : room ≡ member_room c
+
+-- ---- the code's two structs of lent columns
+
+abbrev pub numbers : MemberColumns → Number → List ℕ
+numbers m = five m.flags.now m.names.now m.types.now m.firsts.now m.counts.now
+
+abbrev pub parts : AttributeColumns → Part → List ℕ
+parts a = three a.titles.now a.bodies.now a.lengths.now
+
+abbrev pub columns : MemberColumns → AttributeColumns → Columns
+columns m a = record { member = numbers m; attribute = parts a }
+
+-- the attribute records that there is room for
+abbrev pub limit : AttributeColumns → ℕ
+limit a = room_of a.titles.now a.bodies.now a.lengths.now
+
+-- the slices that they hold are still the same
+abbrev pub SameNumbers : MemberColumns → MemberColumns → Type 0
+SameNumbers m n = (n.flags.ghost_name ≡ m.flags.ghost_name) × ((n.names.ghost_name ≡ m.names.ghost_name) × ((n.types.ghost_name ≡ m.types.ghost_name) × ((n.firsts.ghost_name ≡ m.firsts.ghost_name) × (n.counts.ghost_name ≡ m.counts.ghost_name))))
+
+abbrev pub SameParts : AttributeColumns → AttributeColumns → Type 0
+SameParts a b = (b.titles.ghost_name ≡ a.titles.ghost_name) × ((b.bodies.ghost_name ≡ a.bodies.ghost_name) × (b.lengths.ghost_name ≡ a.lengths.ghost_name))
+
+abbrev pub Same : MemberColumns → AttributeColumns → MemberColumns → AttributeColumns → Type 0
+Same m a n b = SameNumbers m n × SameParts a b
+
+-- columns of the same lengths
+abbrev pub AsLong : {J : Type 0} → (J → List ℕ) → (J → List ℕ) → Type 0
+AsLong {J} c d = (j : J) → length (c j) ≡ length (d j)
+
+pub record Long (c d : Columns) : Type 0 where
+  pub members : AsLong c.member d.member
+  pub attributes : AsLong c.attribute d.attribute
+
+-- record n is within each of them
+abbrev pub InNumbers : ℕ → MemberColumns → Type 0
+InNumbers n m = (n < length m.flags.now) × ((n < length m.names.now) × ((n < length m.types.now) × ((n < length m.firsts.now) × (n < length m.counts.now))))
+
+abbrev pub InParts : ℕ → AttributeColumns → Type 0
+InParts n a = (n < length a.titles.now) × ((n < length a.bodies.now) × (n < length a.lengths.now))
+
+-- the columns of members alone
+abbrev pub rows : (Number → List ℕ) → Columns
+rows c = record { member = c; attribute = λ j. [] }
+
+-- a member with what its record holds, and no more
+abbrev pub only : Member → ℕ → Whole
+only m first = record { member = m; first = first; attributes = []; next = 0 }

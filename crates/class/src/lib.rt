@@ -1,37 +1,30 @@
 // A whole class file, into lent tables: the pool's cells, the interfaces, the members and the attributes.
 #![tactic(auto)]
 
-ghost use Rattle.std.specs.Prelude.{◌≡◌, ◌≤◌, min, length, take, drop};
+ghost use Rattle.std.specs.Prelude.{◌≡◌, ◌≤◌, ◌<◌, length, set, take, drop, replicate};
 ghost use Rattle.reads.specs.Answer.{mapped};
-ghost use Rattle.reads.specs.Promise.{Is, reading2, reading_check, reading_next};
+ghost use Rattle.reads.specs.Promise.{Is, answered, Accepted};
 ghost use Rattle.reads.specs.Tables.{after};
-ghost use Rattle.pool.specs.Pool.{seen};
+ghost use Rattle.slot.specs.Shown.{shown};
 ghost use Rattle.attributes.specs.Attributes.{framed};
+ghost use Rattle.member.specs.Member.{member_at};
 ghost use Rattle.class.specs.Members.{sort_at};
-ghost use Rattle.class.specs.Columns.{lent, three, member_room, room_of, attribute_room, rooms_of, zeros, tabled};
+ghost use Rattle.class.specs.Columns.{Number, Names, Types, Part, number, part, lent, member_room, attribute_room, rooms_of, tabled};
 ghost use Rattle.class.specs.Class.{marked, class_flags, end_at, own_at, tables_at, front_at, class_file};
-ghost use Rattle.class.specs.Steps.{Accepted, Ready, after_many, after_records, after_all, fronted};
-ghost use Rattle.class.specs.Readings.{sorted_of, front_of, filled_of, class_of, reading_sorted, reading_front, reading_class};
+ghost use Rattle.class.specs.Steps.{numbers, parts, columns, limit, SameNumbers, SameParts, Same, AsLong, Long, InNumbers, InParts, rows, only, between, Ready, after_many, after_records, after_all, fronted};
+ghost use Rattle.class.specs.Readings.{sorted_of, front_of, filled_of, class_of};
 
-use attributes::AttributeAnswer;
-use class_head::{HeadAnswer, ListedAnswer};
-use member::{MemberAnswer, Sort};
-use pool::PoolAnswer;
-use reads::{CheckAnswer, Next, Num2, Refusal};
+use attributes::Attribute;
+use member::{Member, Sort};
+use reads::{Answer, Reason};
+use slot::Pool;
 
-// How many members of one sort were read, the byte after them and the number of attribute records made so far.
+// What is reached: how many members of one sort were read, the byte after them, and how many attribute records are made.
 #[derive(Clone, Copy)]
 struct Sorted {
     count: u16,
     at: usize,
     used: usize,
-}
-
-// What is reached after the members of one sort, or the refusal.
-#[derive(Clone, Copy)]
-enum SortedAnswer {
-    Got(Sorted),
-    Refused(Refusal),
 }
 
 // P, the version, flags as the file has them, the slots of this and super, the number of interfaces, and the byte after them.
@@ -45,13 +38,6 @@ struct Front {
     parent: u16,
     interfaces: u16,
     next: usize,
-}
-
-// What stands before the members, or the refusal.
-#[derive(Clone, Copy)]
-enum FrontAnswer {
-    Got(Front),
-    Refused(Refusal),
 }
 
 // What an accepted file answers: P, the version, masked flags, the slots of this and super, how many interfaces, fields and methods there
@@ -71,21 +57,26 @@ pub struct Class {
     pub own: u16,
 }
 
-// An accepted file, or the refusal.
-#[derive(Clone, Copy)]
-pub enum ClassAnswer {
-    Accepted(Class),
-    Refused(Refusal),
+// The lent columns of member records: a slice for each number of a record. Two structs and no generic one: their fields differ.
+#[derive(Drop)]
+struct MemberColumns<'a> {
+    flags: &'a mut [u16],
+    names: &'a mut [u16],
+    types: &'a mut [u16],
+    firsts: &'a mut [u32],
+    counts: &'a mut [u16],
 }
 
-// The least of five.
-fn least5(a: usize, b: usize, c: usize, d: usize, e: usize) -> usize
-    ensures { result ≡ min a (min b (min c (min d e))) }
-{
-    reads::least(a, reads::least(b, reads::least(c, reads::least(d, e))))
+// The lent columns of attribute records.
+#[derive(Drop)]
+struct AttributeColumns<'a> {
+    titles: &'a mut [u16],
+    bodies: &'a mut [u32],
+    lengths: &'a mut [u32],
 }
 
 // Whether the flags mark an interface.
+#[tactic(auto, unfolding(crate::specs::Class::marked))]
 fn is_marked(flags: u16) -> bool
     ensures { result ≡ marked flags }
 {
@@ -93,371 +84,304 @@ fn is_marked(flags: u16) -> bool
 }
 
 // Flags outside the mask are dropped.
+#[tactic(auto, unfolding(crate::specs::Class::class_flags))]
 fn mask(flags: u16) -> u16
     ensures { result ≡ class_flags flags }
 {
     flags & 0xF631
 }
 
-// A number of attributes from a byte of the file on, the class's own or a member's, into the records from `used` on: the byte after
-// them. The shortest of the three slices says the room.
-fn frame(
-    own: bool,
-    file: &[u8],
-    major: u16,
-    table: &[u32],
-    slots: usize,
-    start: usize,
-    count: u16,
-    used: usize,
-    titles: &mut [u16],
-    bodies: &mut [u32],
-    lengths: &mut [u32],
-) -> Next
-    requires { length file.now ≤ 16777216 }
-    ensures answer { let p = seen file.now major table.now slots in
-        let limit = room_of titles.old bodies.old lengths.old in
-        Is reading_next (mapped (λ m. m.end) (framed own p limit count used start)) result }
-    ensures tables { let p = seen file.now major table.now slots in
-        let limit = room_of titles.old bodies.old lengths.old in
-        let c = three titles.old bodies.old lengths.old in
-        Accepted (framed own p limit count used start) (after_records c used) (three titles.new bodies.new lengths.new) }
-{
-    let room = reads::least(reads::least(titles.len(), bodies.len()), lengths.len());
-    let mut at = start;
-    let mut n = used;
-    let mut left = count;
-    while 0 < left {
-        let a = match attributes::record_at(own, file, major, table, slots, room, n, at) {
-            AttributeAnswer::Refused(r) => {
-                return Next::Refused(r);
-            }
-            AttributeAnswer::Got(a) => a,
-        };
-        titles[n] = a.name;
-        bodies[n] = a.start as u32;
-        lengths[n] = a.size;
-        at = a.start + a.size as usize;
-        n += 1;
-        left -= 1;
+impl<'a> MemberColumns<'a> {
+    // How many records there is room for: the shortest column says it.
+    #[tactic(auto, unfolding(crate::specs::Columns::member_room))]
+    fn room(&self) -> usize
+        ensures { result ≡ member_room (rows (numbers self.now)) }
+    {
+        let ids = self.flags.len().min(self.names.len()).min(self.types.len());
+        ids.min(self.firsts.len()).min(self.counts.len())
     }
-    Next::At(at)
+
+    // The member at a byte of the file, up to its attributes; it becomes record n. The records of its sort go from `first` on.
+    fn read(&self, sort: Sort, p: &Pool, first: usize, n: usize, at: usize) -> Answer<Member>
+        requires { let c = numbers self.now in
+            (first ≤ n) × ((n ≤ length (c Names)) × (n ≤ length (c Types))) }
+        ensures { let c = numbers self.now in
+            Is answered (member_at sort (shown p.now) (member_room (rows c)) n at (between first n (c Names)) (between first n (c Types))) result }
+    {
+        let names = &self.names[first..n];
+        let types = &self.types[first..n];
+        member::member_at(sort, p, self.room(), n, at, names, types)
+    }
+
+    // Every number of record n; the member's attributes begin with record `first`.
+    fn put(&mut self, n: usize, m: Member, first: u32)
+        requires { InNumbers n self.old }
+        ensures same { SameNumbers self.old self.new }
+        ensures record { numbers self.new ≡ (λ j. set (numbers self.old j) n (number j (only m first))) }
+    {
+        self.flags[n] = m.flags;
+        self.names[n] = m.name;
+        self.types[n] = m.descriptor;
+        self.firsts[n] = first;
+        self.counts[n] = m.count;
+    }
+
+    // Every cell becomes zero.
+    fn clear(&mut self)
+        ensures same { SameNumbers self.old self.new }
+        ensures zero { numbers self.new ≡ (λ j. replicate (length (numbers self.old j)) 0) }
+    {
+        reads::clear(self.flags);
+        reads::clear(self.names);
+        reads::clear(self.types);
+        reads::clear(self.firsts);
+        reads::clear(self.counts);
+    }
 }
 
-// The members of one sort from their number at a byte of the file on, into the records from `first` on and the attribute records from
-// `before` on.
+impl<'a> AttributeColumns<'a> {
+    // How many records there is room for: the shortest column says it.
+    fn room(&self) -> usize
+        ensures { result ≡ limit self.now }
+    {
+        self.titles
+            .len()
+            .min(self.bodies.len())
+            .min(self.lengths.len())
+    }
+
+    // Every number of record n.
+    fn put(&mut self, n: usize, a: Attribute)
+        requires { InParts n self.old × (a.start ≤ 16777216) }
+        ensures same { SameParts self.old self.new }
+        ensures record { parts self.new ≡ (λ j. set (parts self.old j) n (part j a)) }
+    {
+        self.titles[n] = a.name;
+        self.bodies[n] = a.start as u32;
+        self.lengths[n] = a.size;
+    }
+
+    // Every cell becomes zero.
+    fn clear(&mut self)
+        ensures same { SameParts self.old self.new }
+        ensures zero { parts self.new ≡ (λ j. replicate (length (parts self.old j)) 0) }
+    {
+        reads::clear(self.titles);
+        reads::clear(self.bodies);
+        reads::clear(self.lengths);
+    }
+
+    // A number of attributes from a byte of the file on, the class's own or a member's, into the records from `used` on: the byte after
+    // them. `own` is an argument of the definition, and so it is here.
+    fn frame(&mut self, own: bool, p: &Pool, start: usize, count: u16, used: usize) -> Answer<usize>
+        requires { (length p.now.file.now ≤ 16777216) × (used ≤ 16777216) }
+        ensures same { SameParts self.old self.new }
+        ensures long { AsLong (parts self.new) (parts self.old) }
+        ensures answer { Is answered (mapped (λ m. m.end) (framed own (shown p.now) (limit self.old) count used start)) result }
+        ensures tables { Accepted (framed own (shown p.now) (limit self.old) count used start) (after_records (parts self.old) used) (parts self.new) }
+    {
+        let room = self.room();
+        let mut at = start;
+        for n in used..used + count as usize {
+            let a = attributes::record_at(own, p, room, n, at)?;
+            self.put(n, a);
+            at = a.start + a.size as usize;
+        }
+        Ok(at)
+    }
+}
+
+// The members of one sort, from their number at the byte that is reached on, into the records after those before them.
 fn read_sort(
     sort: Sort,
-    file: &[u8],
-    major: u16,
-    table: &[u32],
-    slots: usize,
-    room: usize,
-    first: usize,
-    start: usize,
-    before: usize,
-    flags: &mut [u16],
-    names: &mut [u16],
-    types: &mut [u16],
-    firsts: &mut [u32],
-    counts: &mut [u16],
-    titles: &mut [u16],
-    bodies: &mut [u32],
-    lengths: &mut [u32],
-) -> SortedAnswer
-    requires { let c = lent flags.old names.old types.old firsts.old counts.old titles.old bodies.old lengths.old in
-        Ready file.now room first start before c }
-    ensures answer { let p = seen file.now major table.now slots in
-        let limit = room_of titles.old bodies.old lengths.old in
-        Is reading_sorted (mapped sorted_of (sort_at sort p room limit first start before)) result }
-    ensures tables { let c = lent flags.old names.old types.old firsts.old counts.old titles.old bodies.old lengths.old in
-        let d = lent flags.new names.new types.new firsts.new counts.new titles.new bodies.new lengths.new in
-        let p = seen file.now major table.now slots in
-        Accepted (sort_at sort p room (attribute_room c) first start before) (after_many c first before) d }
+    p: &Pool,
+    from: Sorted,
+    members: &mut MemberColumns,
+    attributes: &mut AttributeColumns,
+) -> Answer<Sorted>
+    requires { Ready p.now.file.now from.count from.at from.used (columns members.old attributes.old) }
+    ensures same { Same members.old attributes.old members.new attributes.new }
+    ensures long { Long (columns members.new attributes.new) (columns members.old attributes.old) }
+    ensures answer { let c = columns members.old attributes.old in
+        Is answered (mapped sorted_of (sort_at sort (shown p.now) (member_room c) (attribute_room c) from.count from.at from.used)) result }
+    ensures tables { let c = columns members.old attributes.old in
+        let d = columns members.new attributes.new in
+        Accepted (sort_at sort (shown p.now) (member_room c) (attribute_room c) from.count from.at from.used) (after_many c from.count from.used) d }
 {
-    let count = match reads::read_u2(file, start) {
-        Num2::Refused(r) => {
-            return SortedAnswer::Refused(r);
-        }
-        Num2::Got(v) => v,
-    };
-    let mut at = start + 2;
-    let mut used = before;
-    let mut n = first;
-    let mut left = count;
-    while 0 < left {
-        let earlier = &names[first..n];
-        let with = &types[first..n];
-        let m = match member::member_at(
-            sort, file, major, table, slots, room, n, at, earlier, with,
-        ) {
-            MemberAnswer::Refused(r) => {
-                return SortedAnswer::Refused(r);
-            }
-            MemberAnswer::Got(m) => m,
-        };
-        let k = m.count;
-        match frame(
-            false,
-            file,
-            major,
-            table,
-            slots,
-            at + 8,
-            k,
-            used,
-            titles,
-            bodies,
-            lengths,
-        ) {
-            Next::Refused(r) => {
-                return SortedAnswer::Refused(r);
-            }
-            Next::At(next) => {
-                at = next;
-            }
-        }
-        flags[n] = m.flags;
-        names[n] = m.name;
-        types[n] = m.descriptor;
-        firsts[n] = used as u32;
-        counts[n] = k;
-        used += k as usize;
-        n += 1;
-        left -= 1;
+    let count = reads::read_u2(p.file, from.at)?;
+    let first = from.count as usize;
+    let mut at = from.at + 2;
+    let mut used = from.used;
+    for n in first..first + count as usize {
+        let m = members.read(sort, p, first, n, at)?;
+        at = attributes.frame(false, p, at + 8, m.count, used)?;
+        members.put(n, m, used as u32);
+        used += m.count as usize;
     }
-    SortedAnswer::Got(Sorted { count, at, used })
+    Ok(Sorted { count, at, used })
 }
 
 // That the file ends at a byte, and that every bootstrap index is good. The class's own attributes are the `count` records from `used` on.
 fn check_end(
-    file: &[u8],
-    major: u16,
-    table: &[u32],
-    slots: usize,
+    p: &Pool,
     end: usize,
-    titles: &[u16],
-    bodies: &[u32],
+    attributes: &AttributeColumns,
     used: usize,
     count: u16,
-) -> CheckAnswer
-    ensures { let p = seen file.now major table.now slots in
-        Is reading_check (end_at p end (take count (drop used titles.now)) (take count (drop used bodies.now))) result }
+) -> Answer<()>
+    ensures { let titles = attributes.now.titles.now in
+        let bodies = attributes.now.bodies.now in
+        Is answered (end_at (shown p.now) end (take count (drop used titles)) (take count (drop used bodies))) result }
 {
-    if end != file.len() {
-        return CheckAnswer::Refused(Refusal {
-            number: 18,
-            place: end,
-        });
+    if end != p.file.len() {
+        return Err(Reason::LeftOver.at(end));
     }
-    bootstrap::check_indices(file, major, table, slots, titles, bodies, used, count)
+    bootstrap::check_indices(p, attributes.titles, attributes.bodies, used, count)
 }
 
 // The class's own attributes from their number at a byte of the file on, into the records from `used` on: how many they are.
-fn read_own(
-    file: &[u8],
-    major: u16,
-    table: &[u32],
-    slots: usize,
-    start: usize,
-    used: usize,
-    titles: &mut [u16],
-    bodies: &mut [u32],
-    lengths: &mut [u32],
-) -> Num2
-    requires { (length file.now ≤ 16777216) × (used ≤ room_of titles.old bodies.old lengths.old) }
-    ensures answer { let p = seen file.now major table.now slots in
-        let limit = room_of titles.old bodies.old lengths.old in
-        Is reading2 (mapped (λ m. length m.list) (own_at p limit used start)) result }
-    ensures tables { let p = seen file.now major table.now slots in
-        let limit = room_of titles.old bodies.old lengths.old in
-        let c = three titles.old bodies.old lengths.old in
-        Accepted (own_at p limit used start) (after_records c used) (three titles.new bodies.new lengths.new) }
+fn read_own(p: &Pool, start: usize, used: usize, attributes: &mut AttributeColumns) -> Answer<u16>
+    requires { (length p.now.file.now ≤ 16777216) × ((used ≤ start) × (used ≤ limit attributes.old)) }
+    ensures same { SameParts attributes.old attributes.new }
+    ensures long { AsLong (parts attributes.new) (parts attributes.old) }
+    ensures answer { Is answered (mapped (λ m. length m.list) (own_at (shown p.now) (limit attributes.old) used start)) result }
+    ensures tables { Accepted (own_at (shown p.now) (limit attributes.old) used start) (after_records (parts attributes.old) used) (parts attributes.new) }
 {
-    let count = match reads::read_u2(file, start) {
-        Num2::Refused(r) => {
-            return Num2::Refused(r);
-        }
-        Num2::Got(v) => v,
-    };
-    let end = match frame(
-        true,
-        file,
-        major,
-        table,
-        slots,
-        start + 2,
-        count,
-        used,
-        titles,
-        bodies,
-        lengths,
-    ) {
-        Next::Refused(r) => {
-            return Num2::Refused(r);
-        }
-        Next::At(end) => end,
-    };
-    match check_end(file, major, table, slots, end, titles, bodies, used, count) {
-        CheckAnswer::Refused(r) => Num2::Refused(r),
-        CheckAnswer::Fine => Num2::Got(count),
-    }
+    let count = reads::read_u2(p.file, start)?;
+    let end = attributes.frame(true, p, start + 2, count, used)?;
+    check_end(p, end, attributes, used, count)?;
+    Ok(count)
 }
 
 // Fields, methods and the class's own attributes, after what stands before them, up to the end of the file.
 fn read_tables(
     f: Front,
-    file: &[u8],
-    table: &[u32],
-    flags: &mut [u16],
-    names: &mut [u16],
-    types: &mut [u16],
-    firsts: &mut [u32],
-    counts: &mut [u16],
-    titles: &mut [u16],
-    bodies: &mut [u32],
-    lengths: &mut [u32],
-) -> ClassAnswer
-    requires { length file.now ≤ 16777216 }
-    ensures answer { let c = lent flags.old names.old types.old firsts.old counts.old titles.old bodies.old lengths.old in
-        let p = seen file.now f.major table.now f.slots in
-        Is reading_class (mapped (filled_of f) (tables_at (marked f.flags) p (member_room c) (attribute_room c) f.next)) result }
-    ensures tables { let c = lent flags.old names.old types.old firsts.old counts.old titles.old bodies.old lengths.old in
-        let d = lent flags.new names.new types.new firsts.new counts.new titles.new bodies.new lengths.new in
-        let p = seen file.now f.major table.now f.slots in
-        Accepted (tables_at (marked f.flags) p (member_room c) (attribute_room c) f.next) (after_all c) d }
+    p: &Pool,
+    members: &mut MemberColumns,
+    attributes: &mut AttributeColumns,
+) -> Answer<Class>
+    requires { length p.now.file.now ≤ 16777216 }
+    ensures same { Same members.old attributes.old members.new attributes.new }
+    ensures long { Long (columns members.new attributes.new) (columns members.old attributes.old) }
+    ensures answer { let c = columns members.old attributes.old in
+        Is answered (mapped (filled_of f) (tables_at (marked f.flags) (shown p.now) (member_room c) (attribute_room c) f.next)) result }
+    ensures tables { let c = columns members.old attributes.old in
+        let d = columns members.new attributes.new in
+        Accepted (tables_at (marked f.flags) (shown p.now) (member_room c) (attribute_room c) f.next) (after_all c) d }
 {
-    let room = least5(
-        flags.len(),
-        names.len(),
-        types.len(),
-        firsts.len(),
-        counts.len(),
-    );
-    let in_interface = is_marked(f.flags);
     let fields = Sort {
         method: false,
         in_interface: false,
     };
     let methods = Sort {
         method: true,
-        in_interface,
+        in_interface: is_marked(f.flags),
     };
-    let a = match read_sort(
-        fields, file, f.major, table, f.slots, room, 0, f.next, 0, flags, names, types, firsts,
-        counts, titles, bodies, lengths,
-    ) {
-        SortedAnswer::Refused(r) => {
-            return ClassAnswer::Refused(r);
-        }
-        SortedAnswer::Got(a) => a,
+    let start = Sorted {
+        count: 0,
+        at: f.next,
+        used: 0,
     };
-    let b = match read_sort(
-        methods,
-        file,
-        f.major,
-        table,
-        f.slots,
-        room,
-        a.count as usize,
-        a.at,
-        a.used,
-        flags,
-        names,
-        types,
-        firsts,
-        counts,
-        titles,
-        bodies,
-        lengths,
-    ) {
-        SortedAnswer::Refused(r) => {
-            return ClassAnswer::Refused(r);
-        }
-        SortedAnswer::Got(b) => b,
-    };
-    match read_own(
-        file, f.major, table, f.slots, b.at, b.used, titles, bodies, lengths,
-    ) {
-        Num2::Refused(r) => ClassAnswer::Refused(r),
-        Num2::Got(own) => ClassAnswer::Accepted(Class {
-            slots: f.slots,
-            minor: f.minor,
-            major: f.major,
-            flags: mask(f.flags),
-            this: f.this,
-            parent: f.parent,
-            interfaces: f.interfaces,
-            fields: a.count,
-            methods: b.count,
-            used: b.used,
-            own,
-        }),
-    }
+    let a = read_sort(fields, p, start, members, attributes)?;
+    let b = read_sort(methods, p, a, members, attributes)?;
+    let own = read_own(p, b.at, b.used, attributes)?;
+    Ok(Class {
+        slots: f.slots,
+        minor: f.minor,
+        major: f.major,
+        flags: mask(f.flags),
+        this: f.this,
+        parent: f.parent,
+        interfaces: f.interfaces,
+        fields: a.count,
+        methods: b.count,
+        used: b.used,
+        own,
+    })
 }
 
-// The pool, the header and the interfaces.
-fn read_front(file: &[u8], table: &mut [u32], interfaces: &mut [u16]) -> FrontAnswer
-    ensures answer { Is reading_front (mapped front_of (front_at file.now (length table.old) (length interfaces.old))) result }
+// The pool, the header and the interfaces; after a refusal some of the table and of the list may be written.
+fn fill_front(file: &[u8], table: &mut [u32], interfaces: &mut [u16]) -> Answer<Front>
+    ensures answer { Is answered (mapped front_of (front_at file.now (length table.old) (length interfaces.old))) result }
     ensures tables { let cells = length table.old in
         let len = length interfaces.old in
         Accepted (front_at file.now cells len) (fronted cells len) (record { cells = table.new; interfaces = interfaces.new }) }
 {
-    let h = match checks::read_pool(file, table) {
-        PoolAnswer::Refused(r) => {
-            return FrontAnswer::Refused(r);
-        }
-        PoolAnswer::Accepted(h) => h,
+    let h = checks::read_pool(file, table)?;
+    let p = Pool {
+        file,
+        major: h.major,
+        table,
+        slots: h.slots,
     };
-    let c = match class_head::read_head(file, h.major, table, h.slots, h.next) {
-        HeadAnswer::Refused(r) => {
-            return FrontAnswer::Refused(r);
-        }
-        HeadAnswer::Got(c) => c,
-    };
-    match class_head::read_interfaces(file, h.major, table, h.slots, h.next + 6, interfaces) {
-        ListedAnswer::Refused(r) => FrontAnswer::Refused(r),
-        ListedAnswer::Got(l) => FrontAnswer::Got(Front {
-            slots: h.slots,
-            minor: h.minor,
-            major: h.major,
-            flags: c.flags,
-            this: c.this,
-            parent: c.parent,
-            interfaces: l.count,
-            next: l.next,
-        }),
-    }
+    let c = class_head::read_head(&p, h.next)?;
+    let l = class_head::read_interfaces(&p, h.next + 6, interfaces)?;
+    Ok(Front {
+        slots: h.slots,
+        minor: h.minor,
+        major: h.major,
+        flags: c.flags,
+        this: c.this,
+        parent: c.parent,
+        interfaces: l.count,
+        next: l.next,
+    })
 }
 
-// Every cell of the columns becomes zero.
-fn clear_columns(
-    flags: &mut [u16],
-    names: &mut [u16],
-    types: &mut [u16],
-    firsts: &mut [u32],
-    counts: &mut [u16],
-    titles: &mut [u16],
-    bodies: &mut [u32],
-    lengths: &mut [u32],
-)
-    ensures { let c = lent flags.old names.old types.old firsts.old counts.old titles.old bodies.old lengths.old in
-        let d = lent flags.new names.new types.new firsts.new counts.new titles.new bodies.new lengths.new in
-        d ≡ zeros c }
+// The same; after a refusal the table and the list are zero.
+fn read_front(file: &[u8], table: &mut [u32], interfaces: &mut [u16]) -> Answer<Front>
+    ensures answer { Is answered (mapped front_of (front_at file.now (length table.old) (length interfaces.old))) result }
+    ensures tables { let x = front_at file.now (length table.old) (length interfaces.old) in
+        (table.new ≡ after 0 (λ f. f.pool.pool.cells) (length table.old) x) × (interfaces.new ≡ after 0 (λ f. f.interfaces) (length interfaces.old) x) }
 {
-    reads::clear_list(flags);
-    reads::clear_list(names);
-    reads::clear_list(types);
-    reads::clear(firsts);
-    reads::clear_list(counts);
-    reads::clear_list(titles);
-    reads::clear(bodies);
-    reads::clear(lengths);
+    let answer = fill_front(file, table, interfaces);
+    if answer.is_err() {
+        reads::clear(table);
+        reads::clear(interfaces);
+    }
+    answer
+}
+
+// A class file, into the pool's table, the list of interfaces and the columns.
+fn read_into(
+    file: &[u8],
+    table: &mut [u32],
+    interfaces: &mut [u16],
+    members: &mut MemberColumns,
+    attributes: &mut AttributeColumns,
+) -> Answer<Class>
+    ensures same { Same members.old attributes.old members.new attributes.new }
+    ensures answer { let x = class_file file.now (rooms_of (length table.old) (length interfaces.old) (columns members.old attributes.old)) in
+        Is answered (mapped class_of x) result }
+    ensures tables { let c = columns members.old attributes.old in
+        let x = class_file file.now (rooms_of (length table.old) (length interfaces.old) c) in
+        (table.new ≡ after 0 (λ x. x.front.pool.pool.cells) (length table.old) x)
+        × ((interfaces.new ≡ after 0 (λ x. x.front.interfaces) (length interfaces.old) x)
+        × (columns members.new attributes.new ≡ tabled c (mapped (λ x. x.tables) x))) }
+{
+    members.clear();
+    attributes.clear();
+    let f = read_front(file, table, interfaces)?;
+    let p = Pool {
+        file,
+        major: f.major,
+        table,
+        slots: f.slots,
+    };
+    let answer = read_tables(f, &p, members, attributes);
+    if answer.is_err() {
+        reads::clear(table);
+        reads::clear(interfaces);
+        members.clear();
+        attributes.clear();
+    }
+    answer
 }
 
 // A class file, into lent tables: the pool's cells, the interfaces, and a slice for each number of a member record (flags, name slot,
 // descriptor slot, first attribute record, number of attributes) and of an attribute record (name slot, body offset, body length).
 // The shortest slice of a record says the room. Cells past those used are zero; after a refusal every cell is.
+// Ten slices, and no struct of them: the C interface lends them one by one (`luo_class`), and laws of crate `demands` speak of each.
 pub fn read_class(
     file: &[u8],
     table: &mut [u32],
@@ -470,10 +394,10 @@ pub fn read_class(
     titles: &mut [u16],
     bodies: &mut [u32],
     lengths: &mut [u32],
-) -> ClassAnswer
+) -> Answer<Class>
     ensures answer { let c = lent flags.old names.old types.old firsts.old counts.old titles.old bodies.old lengths.old in
         let x = class_file file.now (rooms_of (length table.old) (length interfaces.old) c) in
-        Is reading_class (mapped class_of x) result }
+        Is answered (mapped class_of x) result }
     ensures tables { let c = lent flags.old names.old types.old firsts.old counts.old titles.old bodies.old lengths.old in
         let d = lent flags.new names.new types.new firsts.new counts.new titles.new bodies.new lengths.new in
         let x = class_file file.now (rooms_of (length table.old) (length interfaces.old) c) in
@@ -481,24 +405,17 @@ pub fn read_class(
         × ((interfaces.new ≡ after 0 (λ x. x.front.interfaces) (length interfaces.old) x)
         × (d ≡ tabled c (mapped (λ x. x.tables) x))) }
 {
-    clear_columns(flags, names, types, firsts, counts, titles, bodies, lengths);
-    let f = match read_front(file, table, interfaces) {
-        FrontAnswer::Refused(r) => {
-            reads::clear(table);
-            reads::clear_list(interfaces);
-            return ClassAnswer::Refused(r);
-        }
-        FrontAnswer::Got(f) => f,
+    let mut members = MemberColumns {
+        flags,
+        names,
+        types,
+        firsts,
+        counts,
     };
-    match read_tables(
-        f, file, table, flags, names, types, firsts, counts, titles, bodies, lengths,
-    ) {
-        ClassAnswer::Refused(r) => {
-            reads::clear(table);
-            reads::clear_list(interfaces);
-            clear_columns(flags, names, types, firsts, counts, titles, bodies, lengths);
-            ClassAnswer::Refused(r)
-        }
-        ClassAnswer::Accepted(c) => ClassAnswer::Accepted(c),
-    }
+    let mut attributes = AttributeColumns {
+        titles,
+        bodies,
+        lengths,
+    };
+    read_into(file, table, interfaces, &mut members, &mut attributes)
 }

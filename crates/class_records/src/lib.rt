@@ -3,18 +3,20 @@
 
 ghost use Rattle.std.specs.Prelude.{◌≡◌, length};
 ghost use Rattle.reads.specs.Answer.{mapped};
-ghost use Rattle.reads.specs.Promise.{Is};
+ghost use Rattle.reads.specs.Promise.{Is, answered};
 ghost use Rattle.reads.specs.Tables.{after};
 ghost use Rattle.class.specs.Columns.{lent, tabled};
-ghost use Rattle.class.specs.Readings.{class_of, reading_class};
+ghost use Rattle.class.specs.Readings.{class_of};
 ghost use Rattle.records.specs.Records.{none, no_attribute};
 ghost use Rattle.class_records.specs.ClassRecords.{class_with, records_of, attribute_records_of};
 
-use class::ClassAnswer;
+use class::Class;
+use reads::Answer;
 use records::{Attribute, Member};
 
 // A class file into lent tables, as `class::read_class` reads it, with room for at most so many member records and attribute records: the
 // flags and the attributes' names are made zero, and only so many of them are lent on.
+// The columns stay slices here: `class::read_class` asks for them so (the C interface), and a struct would be taken apart at once.
 fn read_within<'c>(
     file: &[u8],
     table: &mut [u32],
@@ -29,10 +31,10 @@ fn read_within<'c>(
     lengths: &'c mut [u32],
     most: usize,
     limit: usize,
-) -> ClassAnswer
+) -> Answer<Class>
     ensures answer { let c = lent flags.old names.old types.old firsts.old counts.old titles.old bodies.old lengths.old in
         let x = class_with file.now (length table.old) (length interfaces.old) c most limit in
-        Is reading_class (mapped class_of x) result }
+        Is answered (mapped class_of x) result }
     ensures tables { let c = lent flags.old names.old types.old firsts.old counts.old titles.old bodies.old lengths.old in
         let d = lent flags.new names.new types.new firsts.new counts.new titles.new bodies.new lengths.new in
         let x = class_with file.now (length table.old) (length interfaces.old) c most limit in
@@ -40,10 +42,10 @@ fn read_within<'c>(
         × ((interfaces.new ≡ after 0 (λ x. x.front.interfaces) (length interfaces.old) x)
         × (d ≡ tabled c (mapped (λ x. x.tables) x))) }
 {
-    let room = reads::least(most, flags.len());
-    let framed = reads::least(limit, titles.len());
-    reads::clear_list(flags);
-    reads::clear_list(titles);
+    let room = most.min(flags.len());
+    let framed = limit.min(titles.len());
+    reads::clear(flags);
+    reads::clear(titles);
     class::read_class(
         file,
         table,
@@ -76,10 +78,10 @@ pub fn read_class_records(
     lengths: &mut [u32],
     records: &mut [Member],
     attributes: &mut [Attribute],
-) -> ClassAnswer
+) -> Answer<Class>
     ensures answer { let c = lent flags.old names.old types.old firsts.old counts.old titles.old bodies.old lengths.old in
         let x = class_with file.now (length table.old) (length interfaces.old) c (length records.old) (length attributes.old) in
-        Is reading_class (mapped class_of x) result }
+        Is answered (mapped class_of x) result }
     ensures tables { let c = lent flags.old names.old types.old firsts.old counts.old titles.old bodies.old lengths.old in
         let d = lent flags.new names.new types.new firsts.new counts.new titles.new bodies.new lengths.new in
         let x = class_with file.now (length table.old) (length interfaces.old) c (length records.old) (length attributes.old) in

@@ -6,14 +6,15 @@ use mathlib.Core.List.{List}
 use lib.ListN.{length, replicate}
 use denote.Ref.{Bor, MutBor}
 use contract.Lifetimes.{Lfts}
+use Rattle.std.specs.Prelude.{Result}
+use Rattle.reads.specs.declared.Refusal.{Refusal}
 use Rattle.reads.specs.Answer.{Answer, accept, refuse, mapped}
-use Rattle.reads.specs.Promise.{Is}
+use Rattle.reads.specs.Promise.{Is, answered}
 use Rattle.reads.specs.Tables.{padded, after}
 use Rattle.reads.proofs.Answers.{never}
 use Rattle.pool.specs.declared.Head.{Head}
-use Rattle.pool.specs.declared.PoolAnswer.{PoolAnswer}
 use Rattle.pool.specs.Pool.{Whole, slots}
-use Rattle.pool.specs.Readings.{head_of, reading_pool}
+use Rattle.pool.specs.Readings.{head_of}
 use Rattle.pool.proofs.Room.{Bytes}
 use Rattle.checks.specs.Checks.{pool}
 use Rattle.checks.proofs.read_pool.Reads as read_pool_reads
@@ -23,9 +24,7 @@ use Rattle.reach.specs.Reach.{Chain, dependants_in}
 use Rattle.reach.proofs.Sieve.{rising_once}
 use Rattle.reach.proofs.Chains.{at_most_three}
 use Rattle.reach.proofs.Listed.{dependants_are, dependants_rise, listed_slot}
-use Rattle.dependants.specs.declared.DependantsAnswer.{DependantsAnswer}
 use Rattle.dependants.specs.Dependants.{dependants}
-use Rattle.dependants.specs.Readings.{reading_listed}
 use Rattle.dependants.proofs.Demand.{refused_7, refused_13, accepted}
 use Rattle.dependants.proofs.Edge.{handed_is}
 use Rattle.dependants.proofs.dependants.Reads as dependants_reads
@@ -65,8 +64,8 @@ told_13 (refuse nr p) place e = λ i. refuse (e i).refusal (e i).place
 
 module _ (s table : List ℕ) (w : Whole) (o : accept w ≡ handed s table) (n k : ℕ) where
   module _ (Answered : Answer ℕ → Type 0) (says : Answered (mapped length (dependants s table n k))) (left : List ℕ) (leaves : left ≡ lent k (dependants s table n k)) where
-    answered : {x : Answer (List ℕ)} → dependants s table n k ≡ x → Answered (mapped length x) × (left ≡ lent k x)
-    answered e = (subst Answered (ap (mapped length) e) says, leaves ∙ ap (lent k) e)
+    said : {x : Answer (List ℕ)} → dependants s table n k ≡ x → Answered (mapped length x) × (left ≡ lent k x)
+    said e = (subst Answered (ap (mapped length) e) says, leaves ∙ ap (lent k) e)
 
     of_accepted : ((place : ℕ) → Answered (refuse 13 place) → refuse 13 place ≡ mapped length (dependants s table n k)) → n < slots w.pool → Demand3 w.pool n k Answered left
     of_accepted one h =
@@ -79,13 +78,13 @@ module _ (s table : List ℕ) (w : Whole) (o : accept w ≡ handed s table) (n k
           once = rising_once (dependants_in w.pool n) (dependants_rise w.pool n);
           rising = dependants_rise w.pool n;
           alone = λ xs f r. same_list xs (dependants_in w.pool n) r (dependants_rise w.pool n) (λ a. let d = dependants_are w.pool ok a n in (λ m. d.1 ((f a).0 m), λ m. (f a).1 (d.0 m)));
-          fits = λ l. answered (accepted s table w o n k h l);
-          more = λ l. answered ((full (length (dependants_in w.pool n))).1 (omega arith, refl));
-          only_then = λ place. (λ a. (full place).0 (unmapped length (dependants s table n k) 13 place (one place a)), λ r. (answered ((full place).1 r)).0);
+          fits = λ l. said (accepted s table w o n k h l);
+          more = λ l. said ((full (length (dependants_in w.pool n))).1 (omega arith, refl));
+          only_then = λ place. (λ a. (full place).0 (unmapped length (dependants s table n k) 13 place (one place a)), λ r. (said ((full place).1 r)).0);
         }
 
     no_slot : slots w.pool ≤ n → Answered (refuse 7 n) × (left ≡ replicate k 0)
-    no_slot h = answered (refused_7 s table w o n k h)
+    no_slot h = said (refused_7 s table w o n k h)
 
 -- ---- after a pool call on a file of bytes, whose outcome is y and d
 
@@ -98,9 +97,9 @@ LentSlice = MutBor (List ℕ)
 abbrev Two : Type 0
 Two = Slice × (LentSlice × Unit {0})
 
-module _ (file : Slice) (table : LentSlice) (b : Bytes file.now) (κs : Lfts 2) (y : PoolAnswer) (d : Two) (r : read_pool_reads.Learnt κs (file, (table, tt)) y d) where
+module _ (file : Slice) (table : LentSlice) (b : Bytes file.now) (κs : Lfts 2) (y : Result Head Refusal) (d : Two) (r : read_pool_reads.Learnt κs (file, (table, tt)) y d) where
   -- where it accepts there is a pool ..
-  pub pool_accepted : (h : Head) → Is reading_pool (accept h) y → (w : Whole) × (accept w ≡ pool file.now (length table.now))
+  pub pool_accepted : (h : Head) → Is answered (accept h) y → (w : Whole) × (accept w ≡ pool file.now (length table.now))
   pool_accepted h q = whole_of (pool file.now (length table.now)) h (sym q ∙ r.0)
 
   -- .. of which, on the table that it left, the dependants of a slot are asked
@@ -108,12 +107,12 @@ module _ (file : Slice) (table : LentSlice) (b : Bytes file.now) (κs : Lfts 2) 
     taken : accept w ≡ handed again.now given.now
     taken = rw (f, t ∙ r.1) (left file.now b (length table.now) w e)
 
-    pub demand_3 : (κs : _) (n : ℕ) → n < slots w.pool → (z : DependantsAnswer) (o : _) → dependants_reads.Learnt κs (again, (given, (n, (list, tt)))) z o → Demand3 w.pool n (length list.now) (λ x. Is reading_listed x z) o.1.1.1.0.now
-    demand_3 κs n h z o l = of_accepted again.now given.now w taken n (length list.now) (λ x. Is reading_listed x z) l.0 o.1.1.1.0.now l.1 (λ place q. sym q ∙ l.0) h
+    pub demand_3 : (κs : _) (n : ℕ) → n < slots w.pool → (z : Result ℕ Refusal) (o : _) → dependants_reads.Learnt κs (again, (given, (n, (list, tt)))) z o → Demand3 w.pool n (length list.now) (λ x. Is answered x z) o.1.1.1.0.now
+    demand_3 κs n h z o l = of_accepted again.now given.now w taken n (length list.now) (λ x. Is answered x z) l.0 o.1.1.1.0.now l.1 (λ place q. sym q ∙ l.0) h
 
     -- what is no slot is refused
-    pub demand_3_past : (κs : _) (n : ℕ) → slots w.pool ≤ n → (z : DependantsAnswer) (o : _) → dependants_reads.Learnt κs (again, (given, (n, (list, tt)))) z o → Is reading_listed (refuse 7 n) z × (o.1.1.1.0.now ≡ replicate (length list.now) 0)
-    demand_3_past κs n h z o l = no_slot again.now given.now w taken n (length list.now) (λ x. Is reading_listed x z) l.0 o.1.1.1.0.now l.1 h
+    pub demand_3_past : (κs : _) (n : ℕ) → slots w.pool ≤ n → (z : Result ℕ Refusal) (o : _) → dependants_reads.Learnt κs (again, (given, (n, (list, tt)))) z o → Is answered (refuse 7 n) z × (o.1.1.1.0.now ≡ replicate (length list.now) 0)
+    demand_3_past κs n h z o l = no_slot again.now given.now w taken n (length list.now) (λ x. Is answered x z) l.0 o.1.1.1.0.now l.1 h
 
   -- no chain of references is longer than three
   pub demand_3_chains : (w : Whole) → accept w ≡ pool file.now (length table.now) → (k a : ℕ) → Chain w.pool k a → k ≤ 3
@@ -122,8 +121,8 @@ module _ (file : Slice) (table : LentSlice) (b : Bytes file.now) (κs : Lfts 2) 
 -- ---- the same cells in a longer table, with zeros
 
 module _ (file : Slice) (b : Bytes file.now) (room : ℕ) (w : Whole) (e : accept w ≡ pool file.now room) (len : ℕ) (fits : slots w.pool ≤ len) (given : Slice) (list : LentSlice) (t : given.now ≡ padded 0 len w.pool.cells) where
-  pub demand_3_padded : (κs : _) (n : ℕ) → n < slots w.pool → (z : DependantsAnswer) (o : _) → dependants_reads.Learnt κs (file, (given, (n, (list, tt)))) z o → Demand3 w.pool n (length list.now) (λ x. Is reading_listed x z) o.1.1.1.0.now
-  demand_3_padded κs n h z o l = of_accepted file.now given.now w (rw t (own file.now b room w e len fits)) n (length list.now) (λ x. Is reading_listed x z) l.0 o.1.1.1.0.now l.1 (λ place q. sym q ∙ l.0) h
+  pub demand_3_padded : (κs : _) (n : ℕ) → n < slots w.pool → (z : Result ℕ Refusal) (o : _) → dependants_reads.Learnt κs (file, (given, (n, (list, tt)))) z o → Demand3 w.pool n (length list.now) (λ x. Is answered x z) o.1.1.1.0.now
+  demand_3_padded κs n h z o l = of_accepted file.now given.now w (rw t (own file.now b room w e len fits)) n (length list.now) (λ x. Is answered x z) l.0 o.1.1.1.0.now l.1 (λ place q. sym q ∙ l.0) h
 
 -- ---- on bytes: the table as `luo_pool` leaves it, and the list as `luo_dependants` does
 

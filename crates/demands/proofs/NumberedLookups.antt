@@ -48,8 +48,11 @@ module _ (s : List ℕ) (b : Bytes s) (table : List ℕ) where
       then (read_pool s no_limit) _ (wide (unbounded_only s b) refl) (λ w _.
       then (judged w.pool table) _ (then (agree w.pool.cells table) _ (wide (agree_only w.pool.cells table) refl) (λ _ _. wide (checked_only w.pool) refl)) (λ _ _. done _))
 
+  pub part_handed_only : {A : Type 0} (f : Whole → A) → Only of_handed (mapped f (handed s table))
+  part_handed_only f = part f (handed s table) handed_only
+
   pub head_handed_only : Only of_handed (mapped head_of (handed s table))
-  head_handed_only = part head_of (handed s table) handed_only
+  head_handed_only = part_handed_only head_of
 
   pub lookup_only : {A : Type 0} {ns : List ℕ} (f : Pool → Answer A) → covers ns of_handed ≡ true → ((p : Pool) → Only ns (f p)) → Only ns (lookup s table f)
   unfolding lookup

@@ -4,12 +4,15 @@ use mathlib.Core.Bool.{Bool, false, ◌&&◌}
 use mathlib.Core.List.{List}
 use lib.ListN.{length, take, drop, get_or, replicate}
 use denote.Ref.{Bor, MutBor}
+use Rattle.reads.specs.Promise.{answered, refusal, number_of}
+use denote.RattleType.{RattleType}
+use denote.Param.Laws.{Laws, IsCopy}
+use mir.Syntax.{Dict}
+use Rattle.std.specs.declared.clone.Clone.{Ghosts as Clone}
+use Rattle.reads.specs.declared.Zero.{Ghosts as Zero}
 use Rattle.reads.specs.Bytes.{num1, num2, u1, u2, u4, skipped}
-use Rattle.reads.specs.Promise.{reading1, reading2, reading4, reading_next}
-use Rattle.reads.proofs.least.Reads as least_reads
-use Rattle.reads.proofs.join2.Reads as join2_reads
-use Rattle.reads.proofs.join4.Reads as join4_reads
-use Rattle.reads.proofs.join8.Reads as join8_reads
+use Rattle.reads.specs.declared.Reason.{Reason}
+use Rattle.reads.proofs.Reason.at.Reads as at_reads
 use Rattle.reads.proofs.byte_at.Reads as byte_at_reads
 use Rattle.reads.proofs.pair_at.Reads as pair_at_reads
 use Rattle.reads.proofs.part.Reads as part_reads
@@ -18,7 +21,6 @@ use Rattle.reads.proofs.read_u1.Reads as read_u1_reads
 use Rattle.reads.proofs.read_u2.Reads as read_u2_reads
 use Rattle.reads.proofs.read_u4.Reads as read_u4_reads
 use Rattle.reads.proofs.clear.Reads as clear_reads
-use Rattle.reads.proofs.clear_list.Reads as clear_list_reads
 use Rattle.text.specs.Text.{text_form, run, is_text, before, name_marks, unqualified, binary, walked, whole, is_init, is_clinit, is_bootstrap_methods, method_name, module_form, module_name}
 use Rattle.text.proofs.text_form.Reads as text_form_reads
 use Rattle.text.proofs.text_length.Reads as text_length_reads
@@ -48,7 +50,6 @@ use Rattle.descriptors.proofs.returns_void.Reads as returns_void_reads
 use Rattle.descriptors.proofs.takes_nothing.Reads as takes_nothing_reads
 use Rattle.cells.specs.Cells.{cells_in, as_bytes}
 use Rattle.cells.proofs.cell_at.Reads as cell_at_reads
-use Rattle.cells.proofs.clear_bytes.Reads as clear_bytes_reads
 use Rattle.cells.proofs.cells_out.Reads as cells_out_reads
 use Rattle.cells.proofs.list_out.Reads as list_out_reads
 use Rattle.demands.specs.Calls.{AmongAt, Equals, Hands, Leaves, Answers}
@@ -56,20 +57,10 @@ use Rattle.demands.specs.Numbers.{of_read}
 use Rattle.demands.proofs.Kept.{gives, answers}
 use Rattle.demands.proofs.Numbered.{u1_at, u2_at, u4_at, skipped_at}
 
--- ---- numbers of bytes
+-- ---- refusals, and numbers of bytes
 
-module _ (a b : ℕ) where
-  pub reads-least : (κs : _) → Equals (least_reads.Learnt κs (a, (b, tt))) (min a b)
-  reads-least κs = gives (λ z e h. h)
-
-  pub reads-join2 : (κs : _) → Equals (join2_reads.Learnt κs (a, (b, tt))) (a * 256 + b)
-  reads-join2 κs = gives (λ z e h. h)
-
-  pub reads-join4 : (κs : _) → Equals (join4_reads.Learnt κs (a, (b, tt))) (a * 65536 + b)
-  reads-join4 κs = gives (λ z e h. h)
-
-  pub reads-join8 : (κs : _) → Equals (join8_reads.Learnt κs (a, (b, tt))) (a * 4294967296 + b)
-  reads-join8 κs = gives (λ z e h. h)
+pub reads-at : (κs : _) (reason : Reason) (place : ℕ) → Equals (at_reads.Learnt κs (reason, (place, tt))) (refusal (number_of reason) place)
+reads-at κs reason place = gives (λ z e h. h)
 
 module _ (s : Bor (List ℕ)) (at : ℕ) where
   pub reads-byte_at : (κs : _) → Equals (byte_at_reads.Learnt κs (s, (at, tt))) (num1 s.now at)
@@ -82,30 +73,26 @@ module _ (s : Bor (List ℕ)) (at : ℕ) where
   reads-part κs n = gives (λ z e h. h)
 
   -- each read refuses with 2 alone, at the byte where it began
-  pub reads-read_u1 : (κs : _) → Answers (read_u1_reads.Learnt κs (s, (at, tt))) reading1 (u1 s.now at) (AmongAt of_read at)
+  pub reads-read_u1 : (κs : _) → Answers (read_u1_reads.Learnt κs (s, (at, tt))) answered (u1 s.now at) (AmongAt of_read at)
   reads-read_u1 κs = answers (λ z e h. h) (u1_at s.now at)
 
-  pub reads-read_u2 : (κs : _) → Answers (read_u2_reads.Learnt κs (s, (at, tt))) reading2 (u2 s.now at) (AmongAt of_read at)
+  pub reads-read_u2 : (κs : _) → Answers (read_u2_reads.Learnt κs (s, (at, tt))) answered (u2 s.now at) (AmongAt of_read at)
   reads-read_u2 κs = answers (λ z e h. h) (u2_at s.now at)
 
-  pub reads-read_u4 : (κs : _) → Answers (read_u4_reads.Learnt κs (s, (at, tt))) reading4 (u4 s.now at) (AmongAt of_read at)
+  pub reads-read_u4 : (κs : _) → Answers (read_u4_reads.Learnt κs (s, (at, tt))) answered (u4 s.now at) (AmongAt of_read at)
   reads-read_u4 κs = answers (λ z e h. h) (u4_at s.now at)
 
-  pub reads-skip : (κs : _) (n : ℕ) → Answers (skip_reads.Learnt κs (s, (at, (n, tt)))) reading_next (skipped s.now at n) (AmongAt of_read at)
+  pub reads-skip : (κs : _) (n : ℕ) → Answers (skip_reads.Learnt κs (s, (at, (n, tt)))) answered (skipped s.now at n) (AmongAt of_read at)
   reads-skip κs n = answers (λ z e h. h) (skipped_at s.now at n)
 
 -- ---- tables made zero, and cells as bytes
 
+-- whatever numbers the table holds: T is their type, and Z what says its zero
+module _ (T : RattleType) (L : Laws T) (C : IsCopy T) (Z : Zero T.Denot) (zs : Dict) (K : Clone T.Denot) (ks : Dict) where
+  pub reads-clear : (κs : _) (table : MutBor (List T.Denot)) → Leaves (clear_reads.Learnt T L C Z zs K ks κs (table, tt)) (λ e. e.0.now) (replicate (length table.now) Z.ZERO)
+  reads-clear κs table = gives (λ z e h. h)
+
 module _ (table : MutBor (List ℕ)) where
-  pub reads-clear : (κs : _) → Leaves (clear_reads.Learnt κs (table, tt)) (λ e. e.0.now) (replicate (length table.now) 0)
-  reads-clear κs = gives (λ z e h. h)
-
-  pub reads-clear_list : (κs : _) → Leaves (clear_list_reads.Learnt κs (table, tt)) (λ e. e.0.now) (replicate (length table.now) 0)
-  reads-clear_list κs = gives (λ z e h. h)
-
-  pub cells-clear_bytes : (κs : _) → Leaves (clear_bytes_reads.Learnt κs (table, tt)) (λ e. e.0.now) (replicate (length table.now) 0)
-  cells-clear_bytes κs = gives (λ z e h. h)
-
   pub cells-cells_out : (κs : _) (cells : Bor (List ℕ)) → Leaves (cells_out_reads.Learnt κs (cells, (table, tt))) (λ e. e.1.0.now) (as_bytes (length table.now) (take (length table.now / 4) cells.now))
   cells-cells_out κs cells = gives (λ z e h. h)
 

@@ -4,8 +4,8 @@ use mathlib.Core.Path.{refl}
 use mathlib.Core.List.{List, ◌∷◌}
 use lib.ListN.{length, replicate}
 use denote.Ref.{Bor, MutBor}
+use Rattle.reads.specs.Promise.{answered}
 use Rattle.reads.specs.Answer.{Answer, mapped}
-use Rattle.reads.specs.Promise.{reading_check}
 use Rattle.reads.specs.Tables.{after}
 use Rattle.pool.specs.Pool.{Whole, read_pool}
 use Rattle.pool.specs.Readings.{head_of}
@@ -16,7 +16,6 @@ use Rattle.values.specs.Lookups.{literal_at, text_at, span_at}
 use Rattle.lookups.specs.Lookups.{class_at, module_at, package_at, method_type_at, named_at, member_at, handle_at, dynamic_at, invoke_dynamic_at}
 use Rattle.reach.specs.Reach.{◌∈◌}
 use Rattle.dependants.specs.Dependants.{dependants}
-use Rattle.dependants.specs.Readings.{reading_listed}
 use Rattle.class.specs.Readings.{class_of}
 use Rattle.cells.specs.Cells.{cells_in}
 use Rattle.byte_tables.specs.Afresh.{afresh, taken}
@@ -133,7 +132,7 @@ module _ (file : Bor (List ℕ)) (b : Bytes file.now) (table : Bor (List ℕ)) (
     abbrev listed : Answer (List ℕ)
     listed = dependants file.now cells n (length list.now / 4)
 
-    pub byte_dependants-list_dependants : (κs : _) → FillsBytes (list_dependants_reads.Learnt κs (file, (table, (n, (list, tt))))) reading_listed length listed (λ e. e.1.1.1.0.now) (λ xs. xs) (length list.now) (Among of_dependants)
+    pub byte_dependants-list_dependants : (κs : _) → FillsBytes (list_dependants_reads.Learnt κs (file, (table, (n, (list, tt))))) answered length listed (λ e. e.1.1.1.0.now) (λ xs. xs) (length list.now) (Among of_dependants)
     byte_dependants-list_dependants κs = fills_bytes length (λ xs. xs) _ _ (λ z e h. h) (dependants_only file.now b cells n _)
 
     pub loader-luo_dependants : (κs : _) → TellsBytes (luo_dependants_reads.Learnt κs (file, (table, (n, (list, tt))))) in_list length listed (λ e. e.1.1.1.0.now) (λ xs. xs) (length list.now) (Among of_dependants)
@@ -142,5 +141,5 @@ module _ (file : Bor (List ℕ)) (b : Bytes file.now) (table : Bor (List ℕ)) (
 -- ---- the entries read afresh into the cells that these calls lend
 
 pub byte_tables-check_afresh : (κs : _) (file table : Bor (List ℕ)) (lent : MutBor (List ℕ)) → let room = length lent.now in
-    Writes (check_afresh_reads.Learnt κs (file, (table, (lent, tt)))) reading_check (afresh file.now (cells_in table.now) room) (λ e. e.1.1.0.now) (after 0 cells_of room (taken file.now (cells_in table.now) room)) (replicate room 0) (Among of_afresh)
+    Writes (check_afresh_reads.Learnt κs (file, (table, (lent, tt)))) answered (afresh file.now (cells_in table.now) room) (λ e. e.1.1.0.now) (after 0 cells_of room (taken file.now (cells_in table.now) room)) (replicate room 0) (Among of_afresh)
 byte_tables-check_afresh κs file table lent = writes (λ z e h. h) (afresh_only file.now (cells_in table.now) _) (λ nr place e. rw (← none_taken file.now (cells_in table.now) (length lent.now) nr place e) refl)

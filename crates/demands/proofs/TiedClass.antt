@@ -6,28 +6,30 @@ use mathlib.Core.List.{List, [], ◌∷◌}
 use lib.ListN.{length, get_or, take, drop, replicate}
 use denote.Ref.{Bor, MutBor}
 use borrow.Fn.Claims.{AllOf}
+use Rattle.std.specs.Prelude.{Result}
+use Rattle.reads.specs.declared.Refusal.{Refusal}
 use Rattle.reads.specs.Answer.{Answer, refuse, mapped}
-use Rattle.reads.specs.Promise.{Is, reading_check}
-use Rattle.pool.specs.Pool.{Pool, seen}
+use Rattle.reads.specs.Promise.{Is, answered}
+use Rattle.pool.specs.Pool.{Pool}
+use Rattle.slot.specs.declared.Pool.{Pool as LentPool}
+use Rattle.slot.specs.Shown.{shown}
 use Rattle.bootstrap.specs.Bootstrap.{own_body}
 use Rattle.bootstrap.specs.Indices.{bootstrap_indices}
 use Rattle.bootstrap.proofs.check_own.Reads as check_own_reads
 use Rattle.bootstrap.proofs.check_indices.Reads as check_indices_reads
 use Rattle.attributes.specs.Attributes.{record_at}
-use Rattle.attributes.specs.Readings.{reading_attribute}
 use Rattle.attributes.proofs.record_at.Reads as record_at_reads
 use Rattle.member.specs.declared.Sort.{Sort}
 use Rattle.member.specs.Member.{member_at}
-use Rattle.member.specs.Readings.{reading_member}
 use Rattle.member.proofs.member_at.Reads as member_at_reads
 use Rattle.class_head.specs.Header.{head_at, interfaces_at}
-use Rattle.class_head.specs.Readings.{listed_of, reading_head, reading_listed}
+use Rattle.class_head.specs.Readings.{listed_of}
 use Rattle.class_head.proofs.read_head.Reads as read_head_reads
 use Rattle.class_head.proofs.read_interfaces.Reads as read_interfaces_reads
 use Rattle.class.specs.Columns.{Columns, Flags, Names, Types, Firsts, Counts, lent, rooms_of, zeros}
 use Rattle.class.specs.Class.{Class, class_file}
-use Rattle.class.specs.Readings.{class_of, reading_class}
-use Rattle.class.specs.declared.ClassAnswer.{ClassAnswer}
+use Rattle.class.specs.Readings.{class_of}
+use Rattle.class.specs.declared.Class.{Class as Accepted}
 use Rattle.class.proofs.read_class.Reads as read_class_reads
 use Rattle.records.specs.declared.Member.{Member}
 use Rattle.records.specs.declared.Attribute.{Attribute}
@@ -54,30 +56,30 @@ use Rattle.demands.proofs.PlacesClass.{class_placed}
 
 -- ---- the class's parts
 
-module _ (file : Bor (List ℕ)) (major : ℕ) (table : Bor (List ℕ)) (slots : ℕ) where
+module _ (pool : Bor LentPool) where
   -- the pool that they are seen as
   abbrev p : Pool
-  p = seen file.now major table.now slots
+  p = shown pool.now
 
-  pub bootstrap-check_own : (κs : _) (at name start end : ℕ) → Answers (check_own_reads.Learnt κs (file, (major, (table, (slots, (at, (name, (start, (end, tt))))))))) reading_check (own_body p at name start end) (Among of_body)
+  pub bootstrap-check_own : (κs : _) (at name start end : ℕ) → Answers (check_own_reads.Learnt κs (pool, (at, (name, (start, (end, tt)))))) answered (own_body p at name start end) (Among of_body)
   bootstrap-check_own κs at name start end = answers (λ z e h. h) (own_body_only p at name start end)
 
-  pub bootstrap-check_indices : (κs : _) (names bodies : Bor (List ℕ)) (first count : ℕ) → Answers (check_indices_reads.Learnt κs (file, (major, (table, (slots, (names, (bodies, (first, (count, tt))))))))) reading_check
+  pub bootstrap-check_indices : (κs : _) (names bodies : Bor (List ℕ)) (first count : ℕ) → Answers (check_indices_reads.Learnt κs (pool, (names, (bodies, (first, (count, tt)))))) answered
       (bootstrap_indices p (take count (drop first names.now)) (take count (drop first bodies.now))) (Among of_indices)
   bootstrap-check_indices κs names bodies first count = answers (λ z e h. h) (indices_only p _ _)
 
-  pub attributes-record_at : (κs : _) (own : Bool) (room n at : ℕ) → Answers (record_at_reads.Learnt κs (own, (file, (major, (table, (slots, (room, (n, (at, tt))))))))) reading_attribute (record_at own p room n at) (Among of_own)
+  pub attributes-record_at : (κs : _) (own : Bool) (room n at : ℕ) → Answers (record_at_reads.Learnt κs (own, (pool, (room, (n, (at, tt)))))) answered (record_at own p room n at) (Among of_own)
   attributes-record_at κs own room n at = answers (λ z e h. h) (own_record_only own p room n at)
 
-  pub member-member_at : (κs : _) (k : Sort) (room n at : ℕ) (names types : Bor (List ℕ)) → Answers (member_at_reads.Learnt κs (k, (file, (major, (table, (slots, (room, (n, (at, (names, (types, tt))))))))))) reading_member
+  pub member-member_at : (κs : _) (k : Sort) (room n at : ℕ) (names types : Bor (List ℕ)) → Answers (member_at_reads.Learnt κs (k, (pool, (room, (n, (at, (names, (types, tt)))))))) answered
       (member_at k p room n at names.now types.now) (Among of_member)
   member-member_at κs k room n at names types = answers (λ z e h. h) (member_only k p room n at names.now types.now)
 
-  pub class_head-read_head : (κs : _) (at : ℕ) → Answers (read_head_reads.Learnt κs (file, (major, (table, (slots, (at, tt)))))) reading_head (head_at p at) (Among of_head)
+  pub class_head-read_head : (κs : _) (at : ℕ) → Answers (read_head_reads.Learnt κs (pool, (at, tt))) answered (head_at p at) (Among of_head)
   class_head-read_head κs at = answers (λ z e h. h) (head_only p at)
 
   pub class_head-read_interfaces : (κs : _) (at : ℕ) (list : MutBor (List ℕ)) → let room = length list.now in
-      Fills (read_interfaces_reads.Learnt κs (file, (major, (table, (slots, (at, (list, tt))))))) reading_listed listed_of (interfaces_at p room at) (λ e. e.1.1.1.1.1.0.now) (λ m. m.list) room (Among of_interfaces)
+      Fills (read_interfaces_reads.Learnt κs (pool, (at, (list, tt)))) answered listed_of (interfaces_at p room at) (λ e. e.1.1.0.now) (λ m. m.list) room (Among of_interfaces)
   class_head-read_interfaces κs at list = fills listed_of (λ m. m.list) _ _ (λ z e h. h) (interfaces_only p _ at)
 
 -- ---- a whole file, into the pool's table, the interfaces and eight columns
@@ -119,13 +121,13 @@ module _ (a : Slices (Unit {0})) where
   abbrev pub x : Answer Class
   x = class_file (s a) (rooms_of (room a) (len a) (c a))
 
-  pub class-read_class : (κs : _) → Writes (read_class_reads.Learnt κs a) reading_class (mapped class_of x) lent_in (file_into (room a) (len a) (c a) x) (no_file (room a) (len a) (c a)) (OfFile (s a) (room a))
+  pub class-read_class : (κs : _) → Writes (read_class_reads.Learnt κs a) answered (mapped class_of x) lent_in (file_into (room a) (len a) (c a) x) (no_file (room a) (len a) (c a)) (OfFile (s a) (room a))
   class-read_class κs =
       writes_part class_of (file_into (room a) (len a) (c a)) x (λ _ _. refl)
       (λ z e h. (h.0, λ i. record { cells = h.1.0 i; interfaces = h.1.1.0 i; columns = h.1.1.1 i })) (both (file_only (s a) _) (class_placed (s a) _))
 
   -- records made of the columns that a refusal leaves are of zeros
-  pub records-cleared : (κs : _) (z : ClassAnswer) (e : Slices (Unit {0})) → read_class_reads.Learnt κs a z e → (nr place n : ℕ) → Is reading_class (refuse nr place) z → members_from (numbers_of (lent_in e).columns) 0 n ≡ replicate n none
+  pub records-cleared : (κs : _) (z : Result Accepted Refusal) (e : Slices (Unit {0})) → read_class_reads.Learnt κs a z e → (nr place n : ℕ) → Is answered (refuse nr place) z → members_from (numbers_of (lent_in e).columns) 0 n ≡ replicate n none
   records-cleared κs z e h nr place n q =
       let k : (lent_in e).columns ≡ zeros (c a) = ap (λ (l : Lent). l.columns) ((class-read_class κs).refused z e h nr place q).1 in
       ap (λ (d : Columns). members_from (numbers_of d) 0 n) k ∙ (none_recorded (length ((c a).member Flags)) (length ((c a).member Names)) (length ((c a).member Types)) (length ((c a).member Firsts)) (length ((c a).member Counts)) 0 n)
@@ -179,17 +181,17 @@ module _ (a : WithRecords) where
   y = class_with (s a) (room a) (len a) (c a) n k
 
   -- its three clauses
-  abbrev claimed : ClassAnswer → WithRecords → List (Type 0)
+  abbrev claimed : (Result Accepted Refusal) → WithRecords → List (Type 0)
   claimed z e =
       let t = records_into (room a) (len a) (c a) n k y in
-      Is reading_class (mapped class_of y) z
+      Is answered (mapped class_of y) z
       ∷ (((lent_in e).cells ≡ t.lent.cells) × (((lent_in e).interfaces ≡ t.lent.interfaces) × ((lent_in e).columns ≡ t.lent.columns)))
       ∷ (((all_in e).records ≡ t.records) × ((all_in e).attributes ≡ t.attributes)) ∷ []
 
   pub class_records-read_class_records : (κs : _) → Claims read_class_records_contract.ended (λ M 𝓤 𝓛. read_class_records_contract.clauses 𝓛) κs a claimed
   class_records-read_class_records κs = record { text = λ w g z e. refl }
 
-  pub class_records-kept : Writes (λ z e. AllOf (claimed z e)) reading_class (mapped class_of y) all_in (records_into (room a) (len a) (c a) n k y) (no_records (room a) (len a) (c a) n k) (OfFile (s a) (room a))
+  pub class_records-kept : Writes (λ z e. AllOf (claimed z e)) answered (mapped class_of y) all_in (records_into (room a) (len a) (c a) n k y) (no_records (room a) (len a) (c a) n k) (OfFile (s a) (room a))
   class_records-kept =
       writes_part class_of (records_into (room a) (len a) (c a) n k) y (λ _ _. refl)
       (λ z e h. (h.0, λ i. record { lent = record { cells = h.1.0.0 i; interfaces = h.1.0.1.0 i; columns = h.1.0.1.1 i }; records = h.1.1.0 i; attributes = h.1.1.1 i }))

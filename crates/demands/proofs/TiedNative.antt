@@ -5,11 +5,14 @@ use mathlib.Core.List.{List, ◌∷◌}
 use lib.ListN.{length, replicate}
 use lib.Dec.{leb}
 use denote.Ref.{Bor, MutBor}
+use Rattle.std.specs.Prelude.{Result}
+use Rattle.reads.specs.declared.Refusal.{Refusal}
+use Rattle.reads.specs.Promise.{answered}
 use Rattle.reads.specs.Answer.{Answer, mapped, require}
 use Rattle.reads.specs.Tables.{after}
 use Rattle.pool.specs.Pool.{Pool, Whole, slots}
-use Rattle.pool.specs.declared.PoolAnswer.{PoolAnswer}
-use Rattle.pool.specs.Readings.{head_of, reading_pool}
+use Rattle.pool.specs.declared.Head.{Head}
+use Rattle.pool.specs.Readings.{head_of}
 use Rattle.pool.proofs.Room.{Bytes}
 use Rattle.slot.specs.Slots.{tag_of}
 use Rattle.checks.specs.Checks.{pool}
@@ -18,14 +21,9 @@ use Rattle.values.specs.Lookups.{literal_at, text_at, span_at}
 use Rattle.lookups.specs.Lookups.{class_at, module_at, package_at, method_type_at, named_at, member_at, handle_at, dynamic_at, invoke_dynamic_at}
 use Rattle.reach.specs.Reach.{◌∈◌}
 use Rattle.dependants.specs.Dependants.{dependants}
-use Rattle.dependants.specs.declared.DependantsAnswer.{DependantsAnswer}
-use Rattle.dependants.specs.Readings.{reading_listed}
 use Rattle.listing.specs.Listing.{first_of, second_of, column, listed_at, listed, room_of}
-use Rattle.listing.specs.declared.ListingAnswer.{ListingAnswer}
-use Rattle.listing.specs.Readings.{reading_listing}
 use Rattle.listing.proofs.list_slots.Reads as list_slots_reads
-use Rattle.class.specs.declared.ClassAnswer.{ClassAnswer}
-use Rattle.class.specs.Readings.{reading_class}
+use Rattle.class.specs.declared.Class.{Class}
 use Rattle.byte_tables.specs.Enough.{enough_for}
 use Rattle.byte_tables.proofs.cells_for.Reads as cells_for_reads
 use Rattle.byte_pools.proofs.pool_bytes.Reads as pool_bytes_reads
@@ -80,7 +78,7 @@ module _ (file : Bor (List ℕ)) (table : MutBor (List ℕ)) where
   pub loader-luo_pool32 : (κs : _) → let room = length table.now in TellsCells (luo_pool32_reads.Learnt κs (file, (table, tt))) in_pool head_of (pool file.now room) (λ e. e.1.0.now) cells_of room (OfPool file.now room)
   loader-luo_pool32 κs = tells_cells in_pool (λ nr byte h. (lies 1 18 of_pool refl nr h.0).0) head_of cells_of _ _ (λ z e h. h) (both (pool_only file.now _) (pool_placed file.now _))
 
-  pub byte_pools-pool_bytes : (κs : _) → let len = length table.now in FillsBytes (pool_bytes_reads.Learnt κs (file, (table, tt))) reading_pool head_of (pool file.now (len / 4)) (λ e. e.1.0.now) cells_of len (OfPool file.now (len / 4))
+  pub byte_pools-pool_bytes : (κs : _) → let len = length table.now in FillsBytes (pool_bytes_reads.Learnt κs (file, (table, tt))) answered head_of (pool file.now (len / 4)) (λ e. e.1.0.now) cells_of len (OfPool file.now (len / 4))
   byte_pools-pool_bytes κs = fills_bytes head_of cells_of _ _ (λ z e h. h) (both (pool_only file.now _) (pool_placed file.now _))
 
 pub byte_tables-cells_for : (κs : _) (file : Bor (List ℕ)) → Equals (cells_for_reads.Learnt κs (file, tt)) (enough_for file.now)
@@ -121,7 +119,7 @@ module _ (file : Bor (List ℕ)) (b : Bytes file.now) (table : Bor (List ℕ)) (
   abbrev none : Lists
   none = zeros (length tags.now) (length firsts.now) (length seconds.now)
 
-  pub listing-list_slots : (κs : _) → Writes (list_slots_reads.Learnt κs asked) reading_listing (mapped slots all) left_in (into all) none (Among of_dependants)
+  pub listing-list_slots : (κs : _) → Writes (list_slots_reads.Learnt κs asked) answered (mapped slots all) left_in (into all) none (Among of_dependants)
   listing-list_slots κs = writes_part slots into all (λ _ _. refl) (λ z e h. (h.0, λ i. record { tags = h.1.0 i; firsts = h.1.1.0 i; seconds = h.1.1.1 i })) (listed_only file.now b table.now _)
 
   pub loader-luo_slots32 : (κs : _) → Tells (luo_slots32_reads.Learnt κs asked) in_list (mapped slots all) left_in (into all) none (Among of_dependants)
@@ -183,7 +181,7 @@ module _ (file : Bor (List ℕ)) (b : Bytes file.now) (table : Bor (List ℕ)) (
 
 -- ---- structs of numbers
 
-pub numbers-pool_numbers : (κs : _) (answer : PoolAnswer) → Equals (pool_numbers_reads.Learnt κs (answer, tt)) (pool_words (reading_pool.read answer))
+pub numbers-pool_numbers : (κs : _) (answer : Result Head Refusal) → Equals (pool_numbers_reads.Learnt κs (answer, tt)) (pool_words (answered.read answer))
 numbers-pool_numbers κs answer = gives (λ z e h. h)
 
 pub numbers-slot_answer : (κs : _) (r : Reply) → Equals (slot_answer_reads.Learnt κs (r, tt)) (slot_of r)
@@ -210,11 +208,11 @@ numbers-text_answer κs r = gives (λ z e h. h)
 pub numbers-part_answer : (κs : _) (r : Reply) → Equals (part_answer_reads.Learnt κs (r, tt)) (part_of r)
 numbers-part_answer κs r = gives (λ z e h. h)
 
-pub numbers-list_numbers : (κs : _) (answer : DependantsAnswer) → Equals (list_numbers_reads.Learnt κs (answer, tt)) (list_words (reading_listed.read answer))
+pub numbers-list_numbers : (κs : _) (answer : Result ℕ Refusal) → Equals (list_numbers_reads.Learnt κs (answer, tt)) (list_words (answered.read answer))
 numbers-list_numbers κs answer = gives (λ z e h. h)
 
-pub numbers-listing_numbers : (κs : _) (answer : ListingAnswer) → Equals (listing_numbers_reads.Learnt κs (answer, tt)) (list_words (reading_listing.read answer))
+pub numbers-listing_numbers : (κs : _) (answer : Result ℕ Refusal) → Equals (listing_numbers_reads.Learnt κs (answer, tt)) (list_words (answered.read answer))
 numbers-listing_numbers κs answer = gives (λ z e h. h)
 
-pub numbers-class_numbers : (κs : _) (answer : ClassAnswer) → Equals (class_numbers_reads.Learnt κs (answer, tt)) (class_numbers (reading_class.read answer))
+pub numbers-class_numbers : (κs : _) (answer : Result Class Refusal) → Equals (class_numbers_reads.Learnt κs (answer, tt)) (class_numbers (answered.read answer))
 numbers-class_numbers κs answer = gives (λ z e h. h)

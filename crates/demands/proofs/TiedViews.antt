@@ -6,13 +6,13 @@ use lib.ListN.{length}
 use denote.Ref.{Bor, MutBor}
 use borrow.Fn.Claims.{AllOf}
 use Rattle.reads.specs.Answer.{mapped}
-use Rattle.reads.specs.Promise.{Is}
+use Rattle.reads.specs.Promise.{Is, answered}
 use Rattle.reads.specs.Tables.{after}
 use Rattle.handed.specs.Handed.{lookup}
 use Rattle.values.specs.Lookups.{span_at, span_in, bytes_at, bytes_in}
-use Rattle.dependants.specs.declared.DependantsAnswer.{DependantsAnswer}
+use Rattle.reads.specs.declared.Refusal.{Refusal}
+use Rattle.std.specs.Prelude.{Result}
 use Rattle.dependants.specs.Dependants.{dependants as dependants_of}
-use Rattle.dependants.specs.Readings.{reading_listed}
 use Rattle.values.proofs.literal.Reads as literal_reads
 use Rattle.values.proofs.text_or_raw.Reads as text_or_raw_reads
 use Rattle.lookups.proofs.class_name.Reads as class_name_reads
@@ -28,21 +28,21 @@ use Rattle.values.proofs.utf8_span.Reads as utf8_span_reads
 use Rattle.values.proofs.utf8_part.Reads as utf8_part_reads
 use Rattle.dependants.proofs.dependants.Reads as dependants_reads
 use Rattle.views.specs.declared.PoolView.{PoolView}
-use Rattle.views.specs.contracts.literal as over_literal
-use Rattle.views.specs.contracts.text_or_raw as over_text_or_raw
-use Rattle.views.specs.contracts.class_name as over_class_name
-use Rattle.views.specs.contracts.module_name as over_module_name
-use Rattle.views.specs.contracts.package_name as over_package_name
-use Rattle.views.specs.contracts.method_type as over_method_type
-use Rattle.views.specs.contracts.name_and_type as over_name_and_type
-use Rattle.views.specs.contracts.member_reference as over_member_reference
-use Rattle.views.specs.contracts.method_handle as over_method_handle
-use Rattle.views.specs.contracts.dynamic_constant as over_dynamic_constant
-use Rattle.views.specs.contracts.invoke_dynamic as over_invoke_dynamic
-use Rattle.views.specs.contracts.utf8_span as over-utf8-span
-use Rattle.views.specs.contracts.utf8_part as over-utf8-part
-use Rattle.views.specs.contracts.dependants as over_dependants
-use Rattle.views.specs.contracts.view as make_view
+use Rattle.views.specs.contracts.PoolView.literal as over_literal
+use Rattle.views.specs.contracts.PoolView.text_or_raw as over_text_or_raw
+use Rattle.views.specs.contracts.PoolView.class_name as over_class_name
+use Rattle.views.specs.contracts.PoolView.module_name as over_module_name
+use Rattle.views.specs.contracts.PoolView.package_name as over_package_name
+use Rattle.views.specs.contracts.PoolView.method_type as over_method_type
+use Rattle.views.specs.contracts.PoolView.name_and_type as over_name_and_type
+use Rattle.views.specs.contracts.PoolView.member_reference as over_member_reference
+use Rattle.views.specs.contracts.PoolView.method_handle as over_method_handle
+use Rattle.views.specs.contracts.PoolView.dynamic_constant as over_dynamic_constant
+use Rattle.views.specs.contracts.PoolView.invoke_dynamic as over_invoke_dynamic
+use Rattle.views.specs.contracts.PoolView.utf8_span as over-utf8-span
+use Rattle.views.specs.contracts.PoolView.utf8_part as over-utf8-part
+use Rattle.views.specs.contracts.PoolView.dependants as over_dependants
+use Rattle.views.specs.contracts.PoolView.new as make_new
 use Rattle.demands.specs.Calls.{Equals}
 use Rattle.demands.specs.Clauses.{Claims}
 use Rattle.demands.proofs.Kept.{gives}
@@ -53,11 +53,11 @@ abbrev held : Bor (List ℕ) → Bor (List ℕ) → PoolView → Type 0
 held file table z = (z.file ≡ file) × (z.table ≡ table)
 
 module _ (file table : Bor (List ℕ)) where
-  pub views-view : (κs : _) → Claims make_view.ended (λ M 𝓤 𝓛. make_view.clauses 𝓛) κs (file, (table, tt)) (λ z e. held file table z ∷ [])
-  views-view κs = record { text = λ w g z e. refl }
+  pub views-new : (κs : _) → Claims make_new.ended (λ M 𝓤 𝓛. make_new.clauses 𝓛) κs (file, (table, tt)) (λ z e. held file table z ∷ [])
+  views-new κs = record { text = λ w g z e. refl }
 
-  pub views-view_once : Equals {E = Unit {0}} (λ z _. held file table z) (record { file = file; table = table })
-  views-view_once = gives (λ z e h. λ i. record { file = h.0 i; table = h.1 i })
+  pub views-new_once : Equals {E = Unit {0}} (λ z _. held file table z) (record { file = file; table = table })
+  views-new_once = gives (λ z e h. λ i. record { file = h.0 i; table = h.1 i })
 
 -- ---- a lookup over it
 
@@ -111,14 +111,14 @@ module _ (v : PoolView) (n : ℕ) where
   views-utf8_part_same κs z = refl
 
   module _ (list : MutBor (List ℕ)) where
-    abbrev listed : DependantsAnswer → MutBor (List ℕ) → List (Type 0)
+    abbrev listed : Result ℕ Refusal → MutBor (List ℕ) → List (Type 0)
     listed z left =
         let room = length list.now in
         let x = dependants_of v.file.now v.table.now n room in
-        Is reading_listed (mapped length x) z ∷ (left.now ≡ after 0 (λ xs. xs) room x) ∷ []
+        Is answered (mapped length x) z ∷ (left.now ≡ after 0 (λ xs. xs) room x) ∷ []
 
     pub views-dependants : (κs : _) → Claims over_dependants.ended (λ M 𝓤 𝓛. over_dependants.clauses 𝓛) κs (v, (n, (list, tt))) (λ z e. listed z e.1.1.0)
     views-dependants κs = record { text = λ w g z e. refl }
 
-    pub views-dependants_same : (κs : _) (z : DependantsAnswer) (left : MutBor (List ℕ)) → dependants_reads.Learnt κs (v.file, (v.table, (n, (list, tt)))) z (v.file, (v.table, (n, (left, tt)))) ≡ AllOf (listed z left)
+    pub views-dependants_same : (κs : _) (z : Result ℕ Refusal) (left : MutBor (List ℕ)) → dependants_reads.Learnt κs (v.file, (v.table, (n, (list, tt)))) z (v.file, (v.table, (n, (left, tt)))) ≡ AllOf (listed z left)
     views-dependants_same κs z left = refl

@@ -1,2 +1,1 @@
 pub mod Dependants
-pub mod Readings

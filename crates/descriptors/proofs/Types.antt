@@ -5,12 +5,13 @@ use native.Mathlib.Nat.{zero-add}
 use mathlib.Core.Path.{◌≡◌, refl, sym, ◌∙◌, ap, subst}
 use mathlib.Core.List.{List, [], ◌∷◌}
 use mathlib.Core.Bool.{Bool, true, false, cond, not, ◌&&◌, true≢false}
-use lib.ListN.{length, take, drop, get_or, length-drop, drop_of_length-le}
+use lib.ListN.{length, take, drop, get_or, length-drop}
+use Rattle.std.specs.List.{prefix_len}
 use lib.Dec.{eqb, ltb, leb-suc-suc, eqb-suc-zero}
 use borrow.Author.Tests.{eq-eqb, ne_eqb, eqb-true, lt-ltb, ltb-true}
 use Rattle.text.specs.Text.{one_of, before, binary, follows, walked, whole, covered}
 use Rattle.text.proofs.Laws.{and_both}
-use Rattle.text.proofs.Names.{at, scan, binary_scan}
+use Rattle.text.proofs.Names.{scan, binary_scan}
 use Rattle.descriptors.specs.Descriptors.{stands, letters, class_length, base_length, on_more, type_length, depth, closing}
 
 -- ---- a byte at an index
@@ -120,13 +121,14 @@ base_in (b ∷ bs) = go (one_of letters b) (eqb b 0x4C)
 
 -- ---- a field type: its `[`, and what follows them
 
-pub depth_in : (s : List ℕ) (i : ℕ) → i < length s → depth (drop i s) ≡ cond (eqb (get_or s i 0) 0x5B) (suc (depth (drop (i + 1) s))) 0
+pub depth_prefix : (bs : List ℕ) → prefix_len (λ b. eqb b 0x5B) bs ≡ depth bs
 unfolding depth
-depth_in s i h = ap depth (at s i h)
-
-pub depth_out : (s : List ℕ) (i : ℕ) → length s ≤ i → depth (drop i s) ≡ 0
-unfolding depth
-depth_out s i h = rw (drop_of_length-le s h)
+depth_prefix [] = refl
+depth_prefix (b ∷ bs) = go (eqb b 0x5B) (depth_prefix bs)
+  where
+    go : (t : Bool) → prefix_len (λ c. eqb c 0x5B) bs ≡ depth bs → cond t (1 + prefix_len (λ c. eqb c 0x5B) bs) 0 ≡ cond t (suc (depth bs)) 0
+    go true e = omega arith
+    go false e = refl
 
 pub depth_le : (bs : List ℕ) → depth bs ≤ length bs
 unfolding depth

@@ -6,13 +6,15 @@ use native.Mathlib.Omega.{arith}
 use lib.ListN.{length, get_or, take}
 use lib.Dec.{leb, eqb}
 use borrow.Author.Tests.{leb-true, eqb-true, le-leb, lt-leb}
+use Rattle.std.specs.Borrow.{Bor}
 use Rattle.reads.specs.Answer.{Answer, Check, fine, accept, refuse, ◌>>=◌, require, each, mapped}
 use Rattle.reads.proofs.Answers.{same, first, required, whole_only, refused_of, each_at}
-use Rattle.pool.specs.declared.Head.{Head}
-use Rattle.pool.specs.Pool.{Pool, Whole, read_pool, seen}
-use Rattle.pool.specs.Readings.{head_of}
+use Rattle.pool.specs.Pool.{Pool, Whole, read_pool, seen, slots}
 use Rattle.checks.proofs.Edge.{its_file}
+use Rattle.slot.specs.declared.Pool.{Pool as Lent}
+use Rattle.slot.specs.Shown.{shown}
 use Rattle.handed.specs.Handed.{agree, judged, no_limit, handed, lookup}
+use Rattle.handed.specs.Walk.{lent}
 
 -- ---- cell by cell
 
@@ -59,20 +61,18 @@ module _ (s table : List ℕ) where
       let q : r.0 ≡ w = sym (same j.2) in
       rw (← q) (its_file s no_limit r.0 r.1, agreed r.0.pool.cells table a.1)
 
-  looks_at : (h : Head) (w : Whole) → accept w ≡ handed s table → h ≡ head_of w → seen s h.major table h.slots ≡ w.pool
-  looks_at h w e q = λ i. record {
-    file = sym (its_cells w e).0 i;
-    major = ap (λ (x : Head). x.major) q i;
-    cells = (ap (λ (x : Head). take x.slots table) q ∙ (its_cells w e).1) i;
-  }
+  looks_at : (w : Whole) → accept w ≡ handed s table → seen s w.pool.major table (slots w.pool) ≡ w.pool
+  looks_at w e = λ i. record { file = sym (its_cells w e).0 i; major = w.pool.major; cells = (its_cells w e).1 i }
 
-  module _ {A : Type 0} (f : Pool → Answer A) where
-    pub on_handed : (h : Head) → accept h ≡ mapped head_of (handed s table) → f (seen s h.major table h.slots) ≡ lookup s table f
-    unfolding lookup
-    on_handed h e =
-        let w = whole_only head_of (handed s table) h e in
-        rw (← w.1) (ap f (looks_at h w.0 w.1 (sym w.2)))
+-- ---- ... as the code lends it on
 
-    pub off_handed : (nr place : ℕ) → refuse nr place ≡ mapped head_of (handed s table) → refuse nr place ≡ lookup s table f
-    unfolding lookup
-    off_handed nr place e = rw (← refused_of head_of (handed s table) nr place e) refl
+module _ (file table : Bor (List ℕ)) {A : Type 0} (f : Pool → Answer A) where
+  pub on_lent : (p : Lent) → accept p ≡ mapped (lent file table) (handed file.now table.now) → f (shown p) ≡ lookup file.now table.now f
+  unfolding lookup
+  on_lent p e =
+      let w = whole_only (lent file table) (handed file.now table.now) p e in
+      rw (← w.1) (ap f (ap shown (sym w.2) ∙ looks_at file.now table.now w.0 w.1))
+
+  pub off_lent : (nr place : ℕ) → refuse nr place ≡ mapped (lent file table) (handed file.now table.now) → refuse nr place ≡ lookup file.now table.now f
+  unfolding lookup
+  off_lent nr place e = rw (← refused_of (lent file table) (handed file.now table.now) nr place e) refl

@@ -2,7 +2,7 @@
 use mathlib.Core.Path.{◌≡◌, refl, ap, sym, ◌∙◌}
 use mathlib.Core.Bool.{Bool, true, false, cond}
 use mathlib.Core.List.{List, [], ◌∷◌, ◌++◌}
-use Prim.Native.Nat.{ℕ, suc, ◌+◌, ◌-◌, ◌≤◌, ◌<◌}
+use Prim.Native.Nat.{ℕ, suc, ◌+◌, ◌-◌, ◌≤◌, ◌<◌, max}
 use native.Mathlib.Omega.{arith}
 use lib.ListN.{length, get_or, length-append}
 use lib.Dec.{leb, ltb, eqb, leb-suc-suc}
@@ -49,6 +49,7 @@ module _ (s : List ℕ) (major count : ℕ) (table : List ℕ) where
     pub cells : List ℕ
     pub made : length cells ≡ n
     pub few : n < no_limit
+    pub within : n ≤ max count 1
     pub alike : same ≡ agreeing cells table
     pub rest : entries (count - n) owed s major no_limit cells at ≡ all_entries s major count no_limit
 
@@ -58,6 +59,7 @@ module _ (s : List ℕ) (major count : ℕ) (table : List ℕ) where
     cells = 0 ∷ [];
     made = refl;
     few = omega arith;
+    within = omega arith;
     alike = e ∙ sym (agreeing_more [] table 0);
     rest = refl;
   }
@@ -81,6 +83,7 @@ module _ (s : List ℕ) (major count : ℕ) (table : List ℕ) where
           cells = v.cells ++ e.cell ∷ [];
           made = simp (length-append, m);
           few = omega arith;
+          within = omega arith;
           alike = compared e.cell same' q;
           rest = sym (simp (← a) at (step h));
         }

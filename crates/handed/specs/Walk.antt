@@ -1,12 +1,11 @@
 -- The code's own notion: how a handed table is compared while the entries are read. Assumes nothing.
-use Rattle.std.specs.Prelude.{ℕ, suc, ◌+◌, ◌-◌, refl, List, [], ◌∷◌, cond, length, get_or, leb, ltb, eqb}
-use Rattle.reads.specs.Answer.{Answer, Check, accept, ◌>>=◌, require, each}
-use Rattle.reads.specs.Promise.{Reading, reading, refused}
-use Rattle.pool.specs.Pool.{Read, seen}
+use Rattle.std.specs.Prelude.{ℕ, suc, ◌+◌, ◌-◌, List, [], ◌∷◌, cond, length, get_or, leb, ltb, eqb}
+use Rattle.std.specs.Borrow.{Bor}
+use Rattle.reads.specs.Answer.{Check, ◌>>=◌, require, each}
+use Rattle.pool.specs.Pool.{Read, Whole, seen, slots}
+use Rattle.slot.specs.declared.Pool.{Pool as Lent}
 use Rattle.checks.specs.Checks.{checked}
 use Rattle.handed.specs.declared.Walked.{Walked}
-use Rattle.handed.specs.declared.WalkAnswer.{WalkAnswer}
-use Rattle.handed.specs.declared.WalkAnswer.TheVariants.{Got, Refused}
 
 -- how many cells of a table agree with these, from the first on
 unfoldable pub agreeing : List ℕ → List ℕ → ℕ
@@ -35,9 +34,6 @@ judged_as s major table slots same = do
   _ ← rest table slots
   checked (seen s major table slots)
 
-abbrev read_walk : WalkAnswer → Answer Walked
-read_walk (Got w) = accept w
-read_walk (Refused r) = refused r
-
-abbrev pub reading_walk : Reading WalkAnswer (Answer Walked)
-reading_walk = reading Got Refused read_walk (elim [ Got w ↦ refl | Refused r ↦ refl ])
+-- the pool of a handed table, as the code lends it on
+abbrev pub lent : Bor (List ℕ) → Bor (List ℕ) → Whole → Lent
+lent file table w = record { file = file; major = w.pool.major; table = table; slots = slots w.pool }

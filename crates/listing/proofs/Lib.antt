@@ -1,3 +1,4 @@
+pub mod Named
 pub mod Filling
 pub mod Edge
 pub mod Agree

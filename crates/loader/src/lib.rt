@@ -1,4 +1,5 @@
-// What C calls: a table is native cells or four big-endian bytes a cell, an answer a struct of numbers.
+// What C calls: a table is native cells or four big-endian bytes a cell, an answer a struct of numbers. C knows neither generic functions
+// nor closures, so each call is a function of its own, by its name in the header.
 #![tactic(auto)]
 
 ghost use Rattle.std.specs.Prelude.{◌≡◌, ◌/◌, length};

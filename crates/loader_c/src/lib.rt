@@ -1,4 +1,5 @@
-// The exports for C: each is `loader`'s function of its name, with its clauses.
+// The exports for C: each is `loader`'s function of its name, with its clauses. An archive exports the functions of its own crate alone, and
+// no crate stands on an archive, so those that theorems speak of are `loader`'s.
 #![tactic(auto)]
 
 ghost use Rattle.std.specs.Prelude.{◌≡◌, ◌/◌, length};

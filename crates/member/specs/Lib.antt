@@ -1,2 +1,1 @@
 pub mod Member
-pub mod Readings

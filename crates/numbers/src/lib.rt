@@ -1,23 +1,19 @@
-// Structs of numbers that C calls answer with, and what fills them from the answers of the reader.
+// Structs of numbers that C calls answer with, and what fills them from the answers of the reader. The structs are the C interface's, one
+// for each sort of answer, and so are the functions that fill them.
 #![tactic(auto)]
 
 ghost use Rattle.std.specs.Prelude.{◌≡◌, ◌%◌};
-ghost use Rattle.pool.specs.Readings.{reading_pool};
-ghost use Rattle.dependants.specs.Readings.{reading_listed};
-ghost use Rattle.listing.specs.Readings.{reading_listing};
-ghost use Rattle.class.specs.Readings.{reading_class};
-ghost use Rattle.numbers.specs.Numbers.{pool_words, slot_of, named_of, member_of, handle_of, dynamic_of, literal_of, text_of, part_of, list_words, no_class, class_values, class_numbers};
+ghost use Rattle.reads.specs.Promise.{answered};
+ghost use Rattle.numbers.specs.Numbers.{pool_words, slot_of, named_of, member_of, handle_of, dynamic_of, literal_of, text_of, part_of, list_words, class_values, class_numbers};
 
-use class::{Class, ClassAnswer};
-use dependants::DependantsAnswer;
-use listing::ListingAnswer;
-use pool::PoolAnswer;
+use class::Class;
+use pool::Head;
 use questions::Reply;
-use reads::Refusal;
+use reads::Answer;
 
 // What `luo_pool` answers: the refusal's number, 0 where the pool is accepted, its place, how many slots there are, and the version.
 #[repr(C)]
-#[derive(Clone, Copy)]
+#[derive(Clone, Copy, Default)]
 pub struct LuoPoolAnswer {
     pub refusal: u32,
     pub place: u64,
@@ -112,7 +108,7 @@ pub struct LuoPartAnswer {
 
 // How many dependants were listed.
 #[repr(C)]
-#[derive(Clone, Copy)]
+#[derive(Clone, Copy, Default)]
 pub struct LuoListAnswer {
     pub refusal: u32,
     pub place: u64,
@@ -122,7 +118,7 @@ pub struct LuoListAnswer {
 // What `luo_class` answers: after the refusal and its place, how many slots there are, the version, the masked flags, the slots of this and
 // super, and how many interfaces, fields, methods, member attributes and class attributes there are.
 #[repr(C)]
-#[derive(Clone, Copy)]
+#[derive(Clone, Copy, Default)]
 pub struct LuoClassAnswer {
     pub refusal: u32,
     pub place: u64,
@@ -147,23 +143,21 @@ fn word(x: usize) -> u32
 }
 
 // The answer of the pool as numbers.
-pub fn pool_numbers(answer: PoolAnswer) -> LuoPoolAnswer
-    ensures { result ≡ pool_words (reading_pool.read answer) }
+pub fn pool_numbers(answer: Answer<Head>) -> LuoPoolAnswer
+    ensures { result ≡ pool_words (answered.read answer) }
 {
     match answer {
-        PoolAnswer::Refused(r) => LuoPoolAnswer {
-            refusal: r.number as u32,
-            place: r.place as u64,
-            slots: 0,
-            minor: 0,
-            major: 0,
-        },
-        PoolAnswer::Accepted(h) => LuoPoolAnswer {
+        Ok(h) => LuoPoolAnswer {
             refusal: 0,
             place: 0,
             slots: word(h.slots),
             minor: h.minor as u32,
             major: h.major as u32,
+        },
+        Err(r) => LuoPoolAnswer {
+            refusal: r.number as u32,
+            place: r.place as u64,
+            ..LuoPoolAnswer::default()
         },
     }
 }
@@ -269,59 +263,28 @@ pub fn part_answer(r: Reply) -> LuoPartAnswer
 }
 
 // The answer of the dependants as numbers.
-pub fn list_numbers(answer: DependantsAnswer) -> LuoListAnswer
-    ensures { result ≡ list_words (reading_listed.read answer) }
+pub fn list_numbers(answer: Answer<usize>) -> LuoListAnswer
+    ensures { result ≡ list_words (answered.read answer) }
 {
     match answer {
-        DependantsAnswer::Refused(r) => LuoListAnswer {
-            refusal: r.number as u32,
-            place: r.place as u64,
-            count: 0,
-        },
-        DependantsAnswer::Listed(n) => LuoListAnswer {
+        Ok(n) => LuoListAnswer {
             refusal: 0,
             place: 0,
             count: word(n),
         },
-    }
-}
-
-// The answer of the listing as numbers.
-pub fn listing_numbers(answer: ListingAnswer) -> LuoListAnswer
-    ensures { result ≡ list_words (reading_listing.read answer) }
-{
-    match answer {
-        ListingAnswer::Refused(r) => LuoListAnswer {
+        Err(r) => LuoListAnswer {
             refusal: r.number as u32,
             place: r.place as u64,
-            count: 0,
-        },
-        ListingAnswer::Listed(n) => LuoListAnswer {
-            refusal: 0,
-            place: 0,
-            count: word(n),
+            ..LuoListAnswer::default()
         },
     }
 }
 
-fn no_class(r: Refusal) -> LuoClassAnswer
-    ensures { result ≡ no_class r.number r.place }
+// The answer of the listing as numbers: `list_numbers`, by the name that a theorem of `demands` (TiedNative) speaks of.
+pub fn listing_numbers(answer: Answer<usize>) -> LuoListAnswer
+    ensures { result ≡ list_words (answered.read answer) }
 {
-    LuoClassAnswer {
-        refusal: r.number as u32,
-        place: r.place as u64,
-        slots: 0,
-        minor: 0,
-        major: 0,
-        flags: 0,
-        this_class: 0,
-        super_class: 0,
-        interfaces: 0,
-        fields: 0,
-        methods: 0,
-        member_attributes: 0,
-        class_attributes: 0,
-    }
+    list_numbers(answer)
 }
 
 // The numbers of an accepted class file.
@@ -346,11 +309,15 @@ fn class_values(c: Class) -> LuoClassAnswer
 }
 
 // What `class::read_class` answers.
-pub fn class_numbers(answer: ClassAnswer) -> LuoClassAnswer
-    ensures { result ≡ class_numbers (reading_class.read answer) }
+pub fn class_numbers(answer: Answer<Class>) -> LuoClassAnswer
+    ensures { result ≡ class_numbers (answered.read answer) }
 {
     match answer {
-        ClassAnswer::Refused(r) => no_class(r),
-        ClassAnswer::Accepted(c) => class_values(c),
+        Ok(c) => class_values(c),
+        Err(r) => LuoClassAnswer {
+            refusal: r.number as u32,
+            place: r.place as u64,
+            ..LuoClassAnswer::default()
+        },
     }
 }

@@ -1,5 +1,5 @@
 -- What an entry, a slot and a header that were read say of the file. Assumes nothing.
-use mathlib.Core.Path.{◌≡◌, ap, sym}
+use mathlib.Core.Path.{◌≡◌, ap}
 use mathlib.Core.Bool.{Bool, true, false}
 use mathlib.Core.List.{List}
 use Prim.Native.Nat.{ℕ, zero, suc, ◌+◌, ◌≤◌, ◌<◌}
@@ -8,38 +8,19 @@ use lib.ListN.{length}
 use lib.Dec.{leb, ltb}
 use borrow.Author.Tests.{leb-true, ltb-true}
 use Rattle.reads.specs.Answer.{accept}
-use Rattle.reads.specs.Bytes.{num1, num2, u1, u2}
+use Rattle.reads.specs.Bytes.{u1}
 pub use Rattle.reads.proofs.Answers.{same}
 use Rattle.reads.proofs.Answers.{first, held}
-use Rattle.reads.proofs.Leaves.{fits, u1_in}
+use Rattle.reads.proofs.Leaves.{u1_in}
 use Rattle.pool.specs.declared.Entry.{Entry}
 use Rattle.pool.specs.declared.Slot.{Slot}
 use Rattle.pool.specs.declared.Header.{Header}
-use Rattle.pool.specs.Rows.{first as width, row_of}
 use Rattle.pool.specs.Pool.{entry_at, slot_at, header_of}
 
 -- its tag byte stands in the file
 pub entry_in : (s : List ℕ) (major at : ℕ) (e : Entry) → accept e ≡ entry_at s major at → at + 1 ≤ length s
 unfolding entry_at
 entry_in s major at e h = let t = first (u1 s at) _ e h in u1_in s at t.0 t.1
-
--- the first read of a Utf8 and of a handle, where it was found in the file
-module _ (s : List ℕ) (b t : ℕ) (h : b + width (row_of t) ≤ length s) where
-  pub utf8_fits : t ≡ 1 → b + 2 ≤ length s
-  unfolding row_of
-  utf8_fits e = rw e at h
-
-  pub handle_fits : t ≡ 15 → b + 1 ≤ length s
-  unfolding row_of
-  handle_fits e = rw e at h
-
-  pub utf8_there : t ≡ 1 → u2 s b ≡ accept (num2 s b)
-  unfolding u2
-  utf8_there e = sym (fits _ s b 2 (utf8_fits e))
-
-  pub handle_there : t ≡ 15 → u1 s b ≡ accept (num1 s b)
-  unfolding u1
-  handle_there e = sym (fits _ s b 1 (handle_fits e))
 
 -- it has its cell
 pub slot_in : (s : List ℕ) (major room n : ℕ) (owed : Bool) (at : ℕ) (e : Slot) → accept e ≡ slot_at s major room n owed at → n < room

@@ -1,3 +1,4 @@
+pub mod Named
 pub mod Entries
 pub mod Filling
 pub mod Slots

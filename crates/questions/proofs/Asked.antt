@@ -4,23 +4,34 @@ use mathlib.Core.Bool.{Bool}
 use mathlib.Core.List.{List}
 use Prim.Native.Nat.{ℕ}
 use Rattle.reads.specs.Answer.{Answer, Check, accept, refuse, ◌>>=◌}
+use Rattle.std.specs.Prelude.{Result, Ok, Err}
+use Rattle.reads.specs.Promise.{Reading, Is, answered, answered_by}
+use Rattle.reads.specs.declared.Refusal.{Refusal}
 use Rattle.reads.proofs.Answers.{never, carried}
 use Rattle.pool.specs.Pool.{Pool, Whole}
 use Rattle.handed.specs.Handed.{handed, lookup, asked}
-use Rattle.literal.specs.Values.{Literal, bits_of, bits_in}
 use Rattle.values.specs.declared.Span.{Span}
 use Rattle.values.specs.Lookups.{utf8, text_at, span_at, span_in}
 use Rattle.questions.specs.declared.Reply.{Reply}
-use Rattle.questions.specs.Replies.{none, numbers, on_pool, tag_for, literal_numbers, literal_values, span_values}
+use Rattle.questions.specs.Replies.{none, numbers, on_pool}
 
-module _ {A : Type 0} (values : A → Reply) (f : Pool → Answer A) where
-  by_pool : (h : Answer Whole) → numbers values (h >>= λ w. f w.pool) ≡ on_pool (λ p. numbers values (f p)) h
-  by_pool (accept w) = refl
-  by_pool (refuse nr place) = refl
+by_pool : {A : Type 0} (values : A → Reply) (f : Pool → Answer A) (h : Answer Whole) → numbers values (h >>= λ w. f w.pool) ≡ on_pool (λ p. numbers values (f p)) h
+by_pool values f (accept w) = refl
+by_pool values f (refuse nr place) = refl
 
-  pub replied : (s t : List ℕ) (g : Pool → Reply) (o : Reply) (x : Answer A) → o ≡ numbers values x → x ≡ lookup s t f → (λ p. numbers values (f p)) ≡ g → o ≡ on_pool g (handed s t)
-  unfolding lookup
-  replied s t g o x a b e = a ∙ ap (numbers values) b ∙ by_pool (handed s t) ∙ ap (λ (k : Pool → Reply). on_pool k (handed s t)) e
+-- a lookup's answer, in a handed table
+pub replied : {A : Type 0} (values : A → Reply) (f : Pool → Answer A) (s t : List ℕ) → numbers values (lookup s t f) ≡ on_pool (λ p. numbers values (f p)) (handed s t)
+unfolding lookup
+replied values f s t = by_pool values f (handed s t)
+
+-- .. whose value is read in a way of its own
+module _ {R A : Type 0} (values : A → Reply) (w : Reading R A) where
+  read_so : (r : Result R Refusal) → numbers (λ x. values (w.read x)) (answered.read r) ≡ numbers values ((answered_by w).read r)
+  read_so (Ok x) = refl
+  read_so (Err e) = refl
+
+  pub replied_by : (f : Pool → Answer A) (s t : List ℕ) (r : Result R Refusal) → Is (answered_by w) (lookup s t f) r → numbers (λ x. values (w.read x)) (answered.read r) ≡ on_pool (λ p. numbers values (f p)) (handed s t)
+  replied_by f s t r e = read_so r ∙ ap (numbers values) e ∙ replied values f s t
 
 -- ---- the table is judged
 
@@ -30,13 +41,6 @@ not_taken s t g nr place e = rw (← e) refl
 -- .. and the cells of the file stand for it
 pub taken : (g : Pool → Reply) (s cells made table : List ℕ) → cells ≡ made → handed s made ≡ handed s table → on_pool g (handed s cells) ≡ on_pool g (handed s table)
 taken g s cells made table e h = ap (on_pool g) (ap (handed s) e ∙ h)
-
--- ---- a literal by its bits
-
-pub literal_is : (x : Answer Literal) (l : Literal) (o : Reply) (b : ℕ) → accept l ≡ x → b ≡ bits_in x → o ≡ literal_numbers (tag_for l) b → o ≡ numbers literal_values x
-literal_is x l o b e q p =
-    let k : b ≡ bits_of l = q ∙ sym (ap bits_in e) in
-    rw (← e) (p ∙ ap (literal_numbers (tag_for l)) k)
 
 -- ---- a part of the file: it is refused as the text is
 
@@ -52,14 +56,14 @@ module _ (s t : List ℕ) (n : ℕ) where
   unfolding text_at span_at
   span_to_text nr place p e = as_refused (asked p utf8 n) _ _ nr place e
 
-  pub no_part : (nr place : ℕ) → refuse nr place ≡ lookup s t (text_at n) → none nr place ≡ numbers span_values (lookup s t (span_at n))
+  pub no_part : (nr place : ℕ) → refuse nr place ≡ lookup s t (text_at n) → refuse nr place ≡ lookup s t (span_at n)
   unfolding lookup
-  no_part nr place e = rw (← carried (handed s t) _ _ nr place (λ w. text_to_span nr place w.pool) e) refl
+  no_part nr place = carried (handed s t) _ _ nr place (λ w. text_to_span nr place w.pool)
 
-  by_answer : (b : Bool) (x : Span) (y : Answer Span) → accept b ≡ lookup s t (text_at n) → y ≡ lookup s t (span_at n) → x ≡ span_in y → span_values x ≡ numbers span_values y
+  by_answer : (b : Bool) (y : Answer Span) → accept b ≡ lookup s t (text_at n) → y ≡ lookup s t (span_at n) → accept (span_in y) ≡ y
   unfolding lookup
-  by_answer b x (accept z) e q p = ap span_values p
-  by_answer b x (refuse nr place) e q p = absurd (never (e ∙ sym (carried (handed s t) _ _ nr place (λ w. span_to_text nr place w.pool) q)))
+  by_answer b (accept z) e q = refl
+  by_answer b (refuse nr place) e q = absurd (never (e ∙ sym (carried (handed s t) _ _ nr place (λ w. span_to_text nr place w.pool) q)))
 
-  pub a_part : (b : Bool) (x : Span) (o : Reply) → accept b ≡ lookup s t (text_at n) → x ≡ span_in (lookup s t (span_at n)) → o ≡ span_values x → o ≡ numbers span_values (lookup s t (span_at n))
-  a_part b x o e p q = q ∙ by_answer b x (lookup s t (span_at n)) e refl p
+  pub a_part : (b : Bool) (x : Span) → accept b ≡ lookup s t (text_at n) → x ≡ span_in (lookup s t (span_at n)) → accept x ≡ lookup s t (span_at n)
+  a_part b x e p = ap accept p ∙ by_answer b (lookup s t (span_at n)) e refl

@@ -1,5 +1,6 @@
 pub mod Answers
 pub mod Leaves
+pub mod Passed
 pub mod Tables
 pub mod Columns
 pub mod Placed

@@ -1,85 +1,72 @@
 // Big-endian reads at a byte of the file, each with refusal 2 where it passes the end; and lent tables made zero.
 #![tactic(auto)]
 
-ghost use Rattle.std.specs.Prelude.{◌≡◌, ◌+◌, ◌*◌, min, length, take, drop, replicate};
-ghost use Rattle.reads.specs.Bytes.{num1, num2, u1, u2, u4, skipped};
-ghost use Rattle.reads.specs.Promise.{Is, reading1, reading2, reading4, reading_next};
+ghost use Rattle.std.specs.Prelude.{◌≡◌, ◌+◌, ◌≤◌, length, take, drop, replicate, OnOk};
+ghost use Rattle.reads.specs.Bytes.{num1, num2, within, u1, u2, u4, skipped};
+ghost use Rattle.reads.specs.Promise.{Is, answered, number_of};
 
-// A refusal: its number and its place.
-#[derive(Clone, Copy)]
+use std::error::Error;
+use std::fmt;
+
+// Why a call refuses, by document 01's numbers.
+#[derive(Clone, Copy, Debug, PartialEq, Eq)]
+pub enum Reason {
+    TooLong = 1,
+    PastEnd = 2,
+    NoMagic = 3,
+    Unknown = 4,
+    NoCell = 5,
+    Itself = 6,
+    NoSlot = 7,
+    OtherKind = 8,
+    NoText = 9,
+    BadName = 10,
+    BadDescriptor = 11,
+    OtherTable = 12,
+    NoRoom = 13,
+    Twice = 14,
+    BadShape = 15,
+    NotOneBootstrap = 16,
+    NoMethod = 17,
+    LeftOver = 18,
+}
+
+// A refusal: its number and its place. The number is no `Reason`, since `slot::check_text` refuses with any that its caller gives.
+#[derive(Clone, Copy, Debug, PartialEq, Eq)]
 pub struct Refusal {
     pub number: u8,
     pub place: usize,
 }
 
-// What a read of one byte gives: its number, or refusal 2.
-#[derive(Clone, Copy)]
-pub enum Num1 {
-    Got(u8),
-    Refused(Refusal),
+impl Reason {
+    // The refusal for this reason at a place.
+    pub fn at(self, place: usize) -> Refusal
+        ensures { result ≡ record { number = number_of self; place = place } }
+    {
+        Refusal {
+            number: self as u8,
+            place,
+        }
+    }
 }
 
-// The same of two bytes.
-#[derive(Clone, Copy)]
-pub enum Num2 {
-    Got(u16),
-    Refused(Refusal),
+// `NUMBER at PLACE`.
+impl fmt::Display for Refusal {
+    fn fmt<W: fmt::Write>(&self, f: &mut fmt::Formatter<W>) -> fmt::Result {
+        write!(f, "{} at {}", self.number, self.place)
+    }
 }
 
-// The same of four bytes.
-#[derive(Clone, Copy)]
-pub enum Num4 {
-    Got(u32),
-    Refused(Refusal),
-}
+impl Error for Refusal {}
 
-// What a read that keeps nothing gives: the byte after it, or refusal 2.
-#[derive(Clone, Copy)]
-pub enum Next {
-    At(usize),
-    Refused(Refusal),
-}
+// What a call answers: a value, or a refusal.
+pub type Answer<T> = Result<T, Refusal>;
 
-// A check: fine, or the refusal.
-#[derive(Clone, Copy)]
-pub enum CheckAnswer {
-    Fine,
-    Refused(Refusal),
-}
-
-// The smaller of two numbers.
-pub fn least(a: usize, b: usize) -> usize
-    ensures { result ≡ min a b }
-{
-    if a <= b { a } else { b }
-}
-
-// Two bytes as one number, the first the higher.
-pub fn join2(a: u8, b: u8) -> u16
-    ensures { result ≡ a * 256 + b }
-{
-    (a as u16) * 256 + (b as u16)
-}
-
-// Two such numbers as one, the first the higher.
-pub fn join4(a: u16, b: u16) -> u32
-    ensures { result ≡ a * 65536 + b }
-{
-    (a as u32) * 65536 + (b as u32)
-}
-
-// And two of those.
-pub fn join8(a: u32, b: u32) -> u64
-    ensures { result ≡ a * 4294967296 + b }
-{
-    (a as u64) * 4294967296 + (b as u64)
-}
-
-// The byte at a place of the file, 0 past its end.
+// The byte at a place of the file, 0 past its end, as the definition has it.
 pub fn byte_at(s: &[u8], at: usize) -> u8
     ensures { result ≡ num1 s.now at }
 {
-    if at < s.len() { s[at] } else { 0 }
+    s.get(at).copied().unwrap_or(0)
 }
 
 // The number of the two bytes at a place of the file, each 0 past its end.
@@ -89,112 +76,96 @@ pub fn pair_at(s: &[u8], at: usize) -> u16
     if s.len() <= at {
         return 0;
     }
-    join2(byte_at(s, at), byte_at(s, at + 1))
+    u16::from_be_bytes([byte_at(s, at), byte_at(s, at + 1)])
 }
 
 // The n bytes of the file from a place on, or as many of them as it has.
 pub fn part(s: &[u8], at: usize, n: usize) -> &[u8]
     ensures { result.now ≡ take n (drop at s.now) }
 {
-    if s.len() <= at {
-        return &s[0..0];
+    let rest = &s[at.min(s.len())..];
+    &rest[..n.min(rest.len())]
+}
+
+// That the n bytes from `at` on do not pass the end.
+#[tactic(auto, unfolding(crate::specs::Bytes::within))]
+fn check_within(s: &[u8], at: usize, n: usize) -> Answer<()>
+    ensures answer { Is answered (within s.now at n) result }
+    ensures inside { OnOk result (at + n ≤ length s.now) }
+{
+    if s.len() < at || s.len() - at < n {
+        return Err(Reason::PastEnd.at(at));
     }
-    if s.len() - at < n {
-        return &s[at..];
-    }
-    let end = at + n;
-    &s[at..end]
+    Ok(())
 }
 
 // The place after the n bytes from `at` on.
-pub fn skip(s: &[u8], at: usize, n: usize) -> Next
-    ensures { Is reading_next (skipped s.now at n) result }
+#[tactic(auto, unfolding(crate::specs::Bytes::skipped))]
+pub fn skip(s: &[u8], at: usize, n: usize) -> Answer<usize>
+    ensures { Is answered (skipped s.now at n) result }
 {
-    if s.len() < at {
-        return Next::Refused(Refusal {
-            number: 2,
-            place: at,
-        });
-    }
-    if s.len() - at < n {
-        return Next::Refused(Refusal {
-            number: 2,
-            place: at,
-        });
-    }
-    Next::At(at + n)
+    check_within(s, at, n)?;
+    Ok(at + n)
 }
 
-// The byte at a place.
-pub fn read_u1(s: &[u8], at: usize) -> Num1
-    ensures { Is reading1 (u1 s.now at) result }
+// The byte at a place. Three reads and no generic one, which would need a trait with the definitions of all three.
+#[tactic(auto, unfolding(crate::specs::Bytes::u1))]
+pub fn read_u1(s: &[u8], at: usize) -> Answer<u8>
+    ensures { Is answered (u1 s.now at) result }
 {
-    if at < s.len() {
-        Num1::Got(s[at])
-    } else {
-        Num1::Refused(Refusal {
-            number: 2,
-            place: at,
-        })
-    }
+    check_within(s, at, 1)?;
+    Ok(s[at])
 }
 
 // The big-endian number of the two bytes from a place on.
-pub fn read_u2(s: &[u8], at: usize) -> Num2
-    ensures { Is reading2 (u2 s.now at) result }
+#[tactic(auto, unfolding(crate::specs::Bytes::u2))]
+pub fn read_u2(s: &[u8], at: usize) -> Answer<u16>
+    ensures { Is answered (u2 s.now at) result }
 {
-    if s.len() < at {
-        return Num2::Refused(Refusal {
-            number: 2,
-            place: at,
-        });
-    }
-    if s.len() - at < 2 {
-        return Num2::Refused(Refusal {
-            number: 2,
-            place: at,
-        });
-    }
-    Num2::Got(join2(s[at], s[at + 1]))
+    check_within(s, at, 2)?;
+    Ok(u16::from_be_bytes([s[at], s[at + 1]]))
 }
 
 // The big-endian number of the four bytes from a place on.
-pub fn read_u4(s: &[u8], at: usize) -> Num4
-    ensures { Is reading4 (u4 s.now at) result }
+#[tactic(auto, unfolding(crate::specs::Bytes::u4))]
+pub fn read_u4(s: &[u8], at: usize) -> Answer<u32>
+    ensures { Is answered (u4 s.now at) result }
 {
-    if s.len() < at {
-        return Num4::Refused(Refusal {
-            number: 2,
-            place: at,
-        });
-    }
-    if s.len() - at < 4 {
-        return Num4::Refused(Refusal {
-            number: 2,
-            place: at,
-        });
-    }
-    Num4::Got(join4(join2(s[at], s[at + 1]), join2(s[at + 2], s[at + 3])))
+    check_within(s, at, 4)?;
+    Ok(u32::from_be_bytes([s[at], s[at + 1], s[at + 2], s[at + 3]]))
 }
 
-// Makes every cell of a lent table zero.
-pub fn clear(table: &mut [u32])
-    ensures { table.new ≡ replicate (length table.old) 0 }
-{
-    let mut i = 0;
-    while i < table.len() {
-        table[i] = 0;
-        i += 1;
-    }
+// A number that a lent table may hold.
+pub trait Zero: Copy {
+    ghost ZERO: { Self };
+
+    const ZERO: Self;
 }
 
-// Makes every slot number of a lent list zero.
-pub fn clear_list(list: &mut [u16])
-    ensures { list.new ≡ replicate (length list.old) 0 }
+impl Zero for u8 {
+    ghost ZERO = { 0 };
+
+    const ZERO: u8 = 0;
+}
+
+impl Zero for u16 {
+    ghost ZERO = { 0 };
+
+    const ZERO: u16 = 0;
+}
+
+impl Zero for u32 {
+    ghost ZERO = { 0 };
+
+    const ZERO: u32 = 0;
+}
+
+// Makes every number of a lent table zero. No `fill`, which asks of every type that its clone goes well, and no `Default`, whose contract
+// does not say 0.
+pub fn clear<T: Zero>(table: &mut [T])
+    ensures { table.new ≡ replicate (length table.old) T.ZERO }
 {
-    let mut i = 0;
-    while i < list.len() {
-        list[i] = 0;
-        i += 1;
+    for cell in table.iter_mut() {
+        *cell = T::ZERO;
     }
 }

@@ -4,8 +4,10 @@
 ghost use Rattle.std.specs.Prelude.{◌≡◌, length, get_or};
 ghost use Rattle.records.specs.Records.{member_of, members_from, none, attribute_of, attributes_from, no_attribute};
 
+use reads::Zero;
+
 // A member: its flags, the Utf8 slots of its name and descriptor, its first attribute record, and how many it has.
-#[derive(Clone, Copy)]
+#[derive(Clone, Copy, Default)]
 pub struct Member {
     pub flags: u16,
     pub name: u16,
@@ -15,20 +17,15 @@ pub struct Member {
 }
 
 // Number i of a slice, and 0 past its end.
-fn number(list: &[u16], i: usize) -> u16
-    ensures { result ≡ get_or list.now i 0 }
+fn number<T: Zero>(list: &[T], i: usize) -> T
+    ensures { result ≡ get_or list.now i T.ZERO }
 {
-    if i < list.len() { list[i] } else { 0 }
-}
-
-// The same for numbers of four bytes.
-fn long(list: &[u32], i: usize) -> u32
-    ensures { result ≡ get_or list.now i 0 }
-{
-    if i < list.len() { list[i] } else { 0 }
+    list.get(i).copied().unwrap_or(T::ZERO)
 }
 
 // Member i, from a slice for each of its numbers; past the end of a slice its number is 0.
+// The slices of a record stay apart here and below: they are those that `class::read_class` fills for the C interface.
+#[tactic(auto, unfolding(crate::specs::Records::member_of))]
 pub fn member_of<'a>(
     flags: &'a [u16],
     names: &'a [u16],
@@ -43,7 +40,7 @@ pub fn member_of<'a>(
         flags: number(flags, i),
         name: number(names, i),
         descriptor: number(types, i),
-        first_attribute: long(firsts, i),
+        first_attribute: number(firsts, i),
         attributes: number(counts, i),
     }
 }
@@ -59,31 +56,20 @@ pub fn member_records<'a, 'r>(
 )
     ensures { records.new ≡ members_from (record { flags = flags.entry.now; names = names.now; types = types.now; firsts = firsts.now; counts = counts.now }) 0 (length records.old) }
 {
-    let mut i = 0;
-    while i < records.len() {
-        records[i] = member_of(flags, names, types, firsts, counts, i);
-        i += 1;
+    for (i, record) in records.iter_mut().enumerate() {
+        *record = member_of(flags, names, types, firsts, counts, i);
     }
 }
 
-// Record i of a table of records, and one of zeros past its end.
+// Record i of a table of records, and one of zeros past its end. It and `attribute_at` are the public names for one line each.
 pub fn record_at(records: &[Member], i: usize) -> Member
     ensures { result ≡ get_or records.now i none }
 {
-    if i < records.len() {
-        return records[i];
-    }
-    Member {
-        flags: 0,
-        name: 0,
-        descriptor: 0,
-        first_attribute: 0,
-        attributes: 0,
-    }
+    records.get(i).copied().unwrap_or_default()
 }
 
 // An attribute: the Utf8 slot of its name, where its body begins in the file, and how long it is.
-#[derive(Clone, Copy)]
+#[derive(Clone, Copy, Default)]
 pub struct Attribute {
     pub name: u16,
     pub body: u32,
@@ -91,6 +77,7 @@ pub struct Attribute {
 }
 
 // Attribute i, from a slice for each of its numbers; past the end of a slice its number is 0.
+#[tactic(auto, unfolding(crate::specs::Records::attribute_of))]
 pub fn attribute_of<'a>(
     titles: &'a [u16],
     bodies: &'a [u32],
@@ -101,12 +88,13 @@ pub fn attribute_of<'a>(
 {
     Attribute {
         name: number(titles, i),
-        body: long(bodies, i),
-        length: long(lengths, i),
+        body: number(bodies, i),
+        length: number(lengths, i),
     }
 }
 
-// The lent table of attribute records, from a slice for each number: every record is written.
+// The lent table of attribute records, from a slice for each number: every record is written. No generic with `member_records`: the
+// slices that a record is made of are the arguments, and they differ.
 pub fn attribute_records<'a, 'r>(
     titles: &'a [u16],
     bodies: &'a [u32],
@@ -115,10 +103,8 @@ pub fn attribute_records<'a, 'r>(
 )
     ensures { records.new ≡ attributes_from (record { titles = titles.entry.now; bodies = bodies.now; lengths = lengths.now }) 0 (length records.old) }
 {
-    let mut i = 0;
-    while i < records.len() {
-        records[i] = attribute_of(titles, bodies, lengths, i);
-        i += 1;
+    for (i, record) in records.iter_mut().enumerate() {
+        *record = attribute_of(titles, bodies, lengths, i);
     }
 }
 
@@ -126,12 +112,5 @@ pub fn attribute_records<'a, 'r>(
 pub fn attribute_at(records: &[Attribute], i: usize) -> Attribute
     ensures { result ≡ get_or records.now i no_attribute }
 {
-    if i < records.len() {
-        return records[i];
-    }
-    Attribute {
-        name: 0,
-        body: 0,
-        length: 0,
-    }
+    records.get(i).copied().unwrap_or_default()
 }

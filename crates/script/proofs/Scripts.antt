@@ -1,88 +1,81 @@
 -- Laws of lines, words and numbers, for walks along them by an index. Assumes nothing.
-use Prim.Native.Nat.{ℕ, zero, suc, ◌+◌, ◌*◌, ◌-◌, ◌≤◌, ◌<◌}
+use Rattle.std.specs.List.{position_or_len}
+use Rattle.std.specs.Option.{unwrap_or}
+use Rattle.std.proofs.Common.{Option, Some, None}
+use Rattle.std.proofs.lemmas.Bool.{ltb-false}
+use Rattle.std.proofs.lemmas.Slice.{between_to_end}
+use Rattle.std.proofs.lemmas.List.Recursion.{is_position_or_len}
+use Rattle.std.proofs.lemmas.List.Sums.{prefix_len-le-length}
+use Prim.Native.Nat.{ℕ, suc, ◌+◌, ◌*◌, ◌-◌, ◌≤◌, ◌<◌}
 use native.Mathlib.Omega.{arith}
 use native.Mathlib.Numerals.{add-one}
-use mathlib.Core.Path.{◌≡◌, refl, sym, ◌∙◌, ap}
+use mathlib.Core.Path.{◌≡◌, refl, ◌∙◌, ap}
 use mathlib.Core.List.{List, [], ◌∷◌}
-use mathlib.Core.Bool.{Bool, true, false, cond, not}
-use lib.ListN.{length, take, drop, get_or, set, replicate, length-replicate, length-set, length-drop, length-take, drop_of_length-le}
-use lib.Seq.{drop-cons, take_all}
+use mathlib.Core.Bool.{Bool, true, false, cond}
+use lib.ListN.{length, take, drop, get_or, set, drop_of_length-le}
+use lib.Seq.{drop-cons}
 use lib.Dec.{ltb, eqb}
 use borrow.Author.Tests.{lt-ltb, le-ltb, le-leb, lt-leb}
-use Rattle.script.specs.Script.{until, past, asked, word_from, digit, joined, filled, decimal_on}
-
--- the two clauses of `bytes`, from a law that says both
-pub says_within : {A B : Type 0} → A × B → record { says : A; within : B }
-says_within h = record { says = h.0; within = h.1 }
+use Rattle.script.specs.Script.{until, past, word_from, digit, joined, filled, decimal_on}
 
 -- the part of a slice from an index on is what is left when as many are dropped
 pub part : (i : ℕ) (s : List ℕ) → take (length s - i) (drop i s) ≡ drop i s
-part i s = take_all (length s - i) (drop i s) (rw length-drop (omega arith))
+part i s = between_to_end s i (length s) (omega arith)
 
-pub none : (i : ℕ) (s : List ℕ) → length s ≤ i → [] ≡ drop i s
-none i s h = sym (drop_of_length-le s h)
-
-pub until_le : (mark : ℕ) (bs : List ℕ) → until mark bs ≤ length bs
+-- what stands before the first mark, in the library's words, and so what `position` answers
+until_first : (mark : ℕ) (s : List ℕ) → until mark s ≡ position_or_len (λ b. eqb b mark) s
 unfolding until
-until_le mark [] = omega arith
-until_le mark (b ∷ bs) = go (eqb b mark) (until_le mark bs)
-  where
-    go : (t : Bool) → until mark bs ≤ length bs → cond t 0 (suc (until mark bs)) ≤ suc (length bs)
-    go true h = omega arith
-    go false h = omega arith
+until_first mark s = is_position_or_len (until mark) (λ b. eqb b mark) refl (λ x xs. ap (cond (eqb x mark) 0) (omega arith)) s
 
-pub asked_none : (s : List ℕ) → length s ≡ 0 → false ≡ asked s
-unfolding asked
-asked_none [] h = refl
-asked_none (b ∷ bs) h = absurd (let z : ⊥ = omega arith in z)
+module _ (mark : ℕ) (s : List ℕ) where
+  abbrev pub first : ℕ
+  first = position_or_len (λ b. eqb b mark) s
 
-pub asked_some : (s : List ℕ) → (length s ≡ 0 → ⊥) → not (eqb (get_or s 0 0) 35) ≡ asked s
-unfolding asked
-asked_some [] h = absurd (h refl)
-asked_some (b ∷ bs) h = refl
+  go : (t : Bool) → ltb first (length s) ≡ t → first ≤ length s → (unwrap_or (cond t (Some first) None) (length s) ≡ first) × (unwrap_or (cond t (Some first) None) (length s) ≤ length s)
+  go true e h = (refl, h)
+  go false e h = let k = ltb-false _ _ e in (omega arith, omega arith)
+
+  pub found : (r : Option ℕ) → r ≡ cond (ltb first (length s)) (Some first) None → (unwrap_or r (length s) ≡ until mark s) × (unwrap_or r (length s) ≤ length s)
+  found r e = rw (until_first mark s, e) (go (ltb first (length s)) refl (prefix_len-le-length _ s))
 
 module _ (s : List ℕ) (i : ℕ) where
   at : i < length s → drop i s ≡ get_or s i 0 ∷ drop (i + 1) s
   at h = rw (add-one, drop-cons s i 0)
-
-  pub until_in : (mark : ℕ) → i < length s → until mark (drop i s) ≡ cond (eqb (get_or s i 0) mark) 0 (suc (until mark (drop (i + 1) s)))
-  unfolding until
-  until_in mark h = ap (until mark) (at h)
-
-  pub until_out : (mark : ℕ) → length s ≤ i → until mark (drop i s) ≡ 0
-  unfolding until
-  until_out mark h = rw (drop_of_length-le s h)
 
   module _ (n : ℕ) where
     pub decimal_in : i < length s → decimal_on n (drop i s) ≡ cond (ltb 9 (digit (get_or s i 0))) 0 (cond (ltb 1844674407370955160 n) 0 (decimal_on (n * 10 + digit (get_or s i 0)) (drop (i + 1) s)))
     unfolding decimal_on
     decimal_in h = ap (decimal_on n) (at h)
 
+    pub decimal_no_digit : i < length s → 9 < digit (get_or s i 0) → decimal_on n (drop i s) ≡ 0
+    decimal_no_digit h k = decimal_in h ∙ simp (lt-ltb _ _ k)
+
+    module _ (d : ℕ) (h : i < length s) (e : (d ≡ digit (get_or s i 0)) × (d < 16)) where
+      pub decimal_wide : 9 < d → decimal_on n (drop i s) ≡ 0
+      decimal_wide k = decimal_no_digit h (rw (← e.0) k)
+
+      pub decimal_large : d ≤ 9 → 1844674407370955160 < n → decimal_on n (drop i s) ≡ 0
+      decimal_large k l = decimal_in h ∙ simp (← e.0, le-ltb _ _ k, lt-ltb _ _ l)
+
+      pub decimal_digit : d ≤ 9 → n ≤ 1844674407370955160 → decimal_on n (drop i s) ≡ decimal_on (n * 10 + d) (drop (i + 1) s)
+      decimal_digit k l = decimal_in h ∙ simp (← e.0, le-ltb _ _ k, le-ltb _ _ l)
+
     pub decimal_out : length s ≤ i → decimal_on n (drop i s) ≡ n
     unfolding decimal_on
     decimal_out h = rw (drop_of_length-le s h)
 
--- bytes from pairs of digits
-module _ (w out : List ℕ) (n i : ℕ) where
-  abbrev pub value : ℕ
-  value = joined (digit (get_or w i 0)) (digit (get_or w (i + 1) 0))
-
-  two : 2 ≤ length w - i → drop i w ≡ get_or w i 0 ∷ get_or w (i + 1) 0 ∷ drop (i + 2) w
-  two h =
-      let a : i < length w = omega arith in
-      let b : i + 1 < length w = omega arith in
-      let e : i + 1 + 1 ≡ i + 2 = omega arith in
-      at w i a ∙ ap (λ (l : List ℕ). get_or w i 0 ∷ l) (at w (i + 1) b ∙ ap (λ (k : ℕ). get_or w (i + 1) 0 ∷ drop k w) e)
-
-  pub filled_pair : 2 ≤ length w - i → filled (drop i w) out n ≡ cond (ltb n (length out)) (cond (ltb value 256) (filled (drop (i + 2) w) (set out n value) (n + 1)) (n, out)) (n, out)
-  unfolding filled
-  filled_pair h = ap (λ (l : List ℕ). filled l out n) (two h)
-
+-- the bytes that a word says: it ends, the next pair is none, `out` is full, or a pair is put
 pub filled_short : (w out : List ℕ) (n : ℕ) → length w < 2 → filled w out n ≡ (n, out)
 unfolding filled
 filled_short [] out n h = refl
 filled_short (a ∷ []) out n h = refl
 filled_short (a ∷ b ∷ w) out n h = absurd (let z : ⊥ = omega arith in z)
+
+pub filled_none : (w out : List ℕ) (n : ℕ) → 2 ≤ length w → n < length out → 256 ≤ joined (digit (get_or w 0 0)) (digit (get_or w 1 0)) → filled w out n ≡ (n, out)
+unfolding filled
+filled_none [] out n two more h = absurd (let z : ⊥ = omega arith in z)
+filled_none (a ∷ []) out n two more h = absurd (let z : ⊥ = omega arith in z)
+filled_none (a ∷ b ∷ w) out n two more h = simp (lt-ltb _ _ more, le-ltb _ _ h)
 
 pub filled_full : (w out : List ℕ) (n : ℕ) → length out ≤ n → filled w out n ≡ (n, out)
 unfolding filled
@@ -90,43 +83,11 @@ filled_full [] out n h = refl
 filled_full (a ∷ []) out n h = refl
 filled_full (a ∷ b ∷ w) out n h = simp (le-ltb _ _ h)
 
--- a count within a list is the length of what it takes
-pub counted : (n : ℕ) (xs : List ℕ) → n ≤ length xs → n ≡ length (take n xs)
-counted n xs h = sym (simp length-take (omega arith))
-
--- the loop's invariant: what is left to fill gives what the whole word gives
-abbrev pub Filling : List ℕ → List ℕ → List ℕ → ℕ → ℕ → Type 0
-Filling w out₀ out n i = (i ≤ length w) × (n ≤ length out) × (length out ≡ length out₀) × (filled (drop i w) out n ≡ filled w out₀ 0)
-
-abbrev pub Filled : List ℕ → List ℕ → List ℕ → ℕ → Type 0
-Filled w out₀ out n = ((n, out) ≡ filled w out₀ 0) × ((n ≤ length out) × (n ≡ length (take n out)) × (length out ≡ length out₀))
-
-module _ (w out₀ out : List ℕ) (n i : ℕ) (v : Filling w out₀ out n i) where
-  ended : filled (drop i w) out n ≡ (n, out) → Filled w out₀ out n
-  ended e = (sym e ∙ v.3, (v.1, counted n out v.1, v.2))
-
-  pub cut_short : length w - i < 2 → Filled w out₀ out n
-  cut_short h = ended (filled_short (drop i w) out n (rw length-drop h))
-
-  pub full : length out ≤ n → Filled w out₀ out n
-  full h = ended (filled_full (drop i w) out n h)
-
-  module _ (x y b : ℕ) (more : n < length out) (two : 2 ≤ length w - i) (e : b ≡ joined x y) (f : x ≡ digit (get_or w i 0)) (g : y ≡ digit (get_or w (i + 1) 0)) where
-    is_value : b ≡ value w out n i
-    is_value = rw (← f, ← g, e)
-
-    pub no_pair : 255 < b → Filled w out₀ out n
-    no_pair h = let k : 256 ≤ b = omega arith in ended (filled_pair w out n i two ∙ rw (← is_value) (simp (lt-ltb _ _ more, le-ltb _ _ k)))
-
-    pub turn : b ≤ 255 → Filling w out₀ (set out n b) (n + 1) (i + 2)
-    turn h =
-        let k : b < 256 = omega arith in
-        let p : filled (drop i w) out n ≡ filled (drop (i + 2) w) (set out n b) (n + 1) = filled_pair w out n i two ∙ rw (← is_value) (simp (lt-ltb _ _ more, lt-ltb _ _ k)) in
-        (omega arith, simp length-set (omega arith), simp length-set v.2, sym p ∙ v.3)
-
--- an array of zeros has its length; stated over the length, since none so large is to be written out
-pub as_long : (n : ℕ) → n ≡ length {A = ℕ} (replicate n 0)
-as_long n = sym (length-replicate {0} n 0)
+pub filled_on : (w out : List ℕ) (n b : ℕ) → 2 ≤ length w → n < length out → (b ≡ joined (digit (get_or w 0 0)) (digit (get_or w 1 0))) × (b < 256) → filled w out n ≡ filled (drop 2 w) (set out n b) (n + 1)
+unfolding filled
+filled_on [] out n b two more h = absurd (let z : ⊥ = omega arith in z)
+filled_on (a ∷ []) out n b two more h = absurd (let z : ⊥ = omega arith in z)
+filled_on (a ∷ c ∷ w) out n b two more h = let k = rw h.0 at h.1 in simp (lt-ltb _ _ more, lt-ltb _ _ k, h.0)
 
 -- the place after a mark lies inside, and further on
 module _ (mark : ℕ) (s : List ℕ) (at : ℕ) where
@@ -144,12 +105,10 @@ module _ (mark : ℕ) (s : List ℕ) (at : ℕ) where
     past_none k = let p = rw part at e in simp (lt-leb _ _ h, ← p, le-ltb _ _ k)
 
 -- the place of a word, one word further on
-pub word_done : (s : List ℕ) (at n : ℕ) → n ≤ 0 → word_from n s at ≡ at
+pub word_on : (s : List ℕ) (at n i : ℕ) → i < n → word_from (n - i) s at ≡ word_from (n - (i + 1)) s (past 32 s at)
 unfolding word_from
-word_done s at zero h = refl
-word_done s at (suc n) h = omega arith
+word_on s at n i h = let e : n - i ≡ suc (n - (i + 1)) = omega arith in rw e
 
-pub word_on : (s : List ℕ) (at n : ℕ) → 0 < n → word_from n s at ≡ word_from (n - 1) s (past 32 s at)
+pub word_done : (s : List ℕ) (at n i : ℕ) → n ≤ i → word_from (n - i) s at ≡ at
 unfolding word_from
-word_on s at zero h = omega arith
-word_on s at (suc n) h = let e : suc n - 1 ≡ n = omega arith in rw e
+word_done s at n i h = let e : n - i ≡ 0 = omega arith in rw e

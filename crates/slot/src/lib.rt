@@ -1,18 +1,18 @@
-// What stands in a slot of the pool, and what a slot must be that is named. A function here takes the file, its major version, a table
-// and how many of its cells are slots; outside of these it reads 0.
+// What stands in a slot of the pool, and what a slot must be that is named. Outside of the file and of the slots it reads 0.
 #![tactic(auto)]
 
 ghost use Rattle.std.specs.Prelude.{◌≡◌};
-ghost use Rattle.reads.specs.Promise.{Is, reading_check};
+ghost use Rattle.reads.specs.Promise.{Is, answered};
 ghost use Rattle.text.specs.Text.{is_text};
 ghost use Rattle.pool.specs.Kinds.{has};
-ghost use Rattle.pool.specs.Pool.{seen, slots as slots_of};
+ghost use Rattle.pool.specs.Pool.{slots};
 ghost use Rattle.slot.specs.Slots.{cell, tag_of, field, bytes_of, in_range, of_kind, text_at, utf8_at, text_of, class_name, class_text, typed};
 ghost use Rattle.slot.specs.Grammars.{good, simple};
+ghost use Rattle.slot.specs.Shown.{shown};
 
-use reads::{CheckAnswer, Refusal};
+use reads::{Answer, Reason, Refusal};
 
-// What a text must be.
+// What a text must be. No closure for the rule: with the name both `is_good` and `is_simple` are one table, and a contract says `good grammar`.
 #[derive(Clone, Copy)]
 pub enum Grammar {
     Unqualified,
@@ -22,63 +22,13 @@ pub enum Grammar {
     MethodDescriptor,
 }
 
-// How many of a table's first cells are slots: no more than it has.
-pub fn slots_of(file: &[u8], major: u16, table: &[u32], slots: usize) -> usize
-    ensures { result ≡ slots_of (seen file.now major table.now slots) }
-{
-    if table.len() < slots {
-        return table.len();
-    }
-    slots
-}
-
-// That m is a slot.
-pub fn check_range(
-    file: &[u8],
-    major: u16,
-    table: &[u32],
-    slots: usize,
-    place: usize,
-    m: usize,
-) -> CheckAnswer
-    ensures { Is reading_check (in_range (seen file.now major table.now slots) place m) result }
-{
-    if slots_of(file, major, table, slots) <= m {
-        return CheckAnswer::Refused(Refusal { number: 7, place });
-    }
-    CheckAnswer::Fine
-}
-
-// Cell n of a table's first slots; 0 for what is no slot.
-pub fn cell_of(file: &[u8], major: u16, table: &[u32], slots: usize, n: usize) -> u32
-    ensures { result ≡ cell (seen file.now major table.now slots) n }
-{
-    if slots <= n {
-        return 0;
-    }
-    if table.len() <= n {
-        return 0;
-    }
-    table[n]
-}
-
-// The tag of slot n; 0 for Zero, Unused and what is no slot.
-pub fn tag_of(file: &[u8], major: u16, table: &[u32], slots: usize, n: usize) -> u8
-    ensures { result ≡ tag_of (seen file.now major table.now slots) n }
-{
-    let c = cell_of(file, major, table, slots, n);
-    if c == 0 {
-        return 0;
-    }
-    reads::byte_at(file, c as usize)
-}
-
-// The u2 that stands k bytes after slot n's tag byte.
-pub fn field_of(file: &[u8], major: u16, table: &[u32], slots: usize, n: usize, k: u8) -> u16
-    ensures { result ≡ field (seen file.now major table.now slots) n k }
-{
-    let c = cell_of(file, major, table, slots, n);
-    reads::pair_at(file, c as usize + k as usize)
+// A pool as checks and lookups see it: the file, its major version, a table, and how many of its first cells are slots.
+#[derive(Clone, Copy)]
+pub struct Pool<'a> {
+    pub file: &'a [u8],
+    pub major: u16,
+    pub table: &'a [u32],
+    pub slots: usize,
 }
 
 // Whether a bit set of kinds has a tag.
@@ -91,81 +41,11 @@ fn has_kind(set: u32, tag: u8) -> bool
     set & (1u32 << tag) != 0
 }
 
-// That slot m is of an allowed kind.
-pub fn check_kind(
-    file: &[u8],
-    major: u16,
-    table: &[u32],
-    slots: usize,
-    place: usize,
-    allowed: u32,
-    m: usize,
-) -> CheckAnswer
-    ensures { Is reading_check (of_kind (seen file.now major table.now slots) place allowed m) result }
-{
-    if has_kind(allowed, tag_of(file, major, table, slots, m)) {
-        return CheckAnswer::Fine;
-    }
-    CheckAnswer::Refused(Refusal { number: 8, place })
-}
-
-// The bytes of the Utf8 entry in slot m, a part of the file.
-pub fn bytes_of<'a>(file: &'a [u8], major: u16, table: &[u32], slots: usize, m: usize) -> &'a [u8]
-    ensures { result.now ≡ bytes_of (seen file.now major table.now slots) m }
-{
-    let c = cell_of(file, major, table, slots, m);
-    let n = field_of(file, major, table, slots, m, 1);
-    reads::part(file, c as usize + 3, n as usize)
-}
-
 // Whether bytes are text, as they are where they are plain ASCII.
 fn is_text(t: &[u8]) -> bool
     ensures { result ≡ is_text t.now }
 {
-    if ascii::is_ascii(t) {
-        return true;
-    }
-    text::is_text(t)
-}
-
-// That slot m is a Utf8 entry and text.
-pub fn check_utf8(
-    file: &[u8],
-    major: u16,
-    table: &[u32],
-    slots: usize,
-    place: usize,
-    m: usize,
-) -> CheckAnswer
-    ensures { Is reading_check (text_at (seen file.now major table.now slots) place m) result }
-{
-    match check_kind(file, major, table, slots, place, pool::UTF8, m) {
-        CheckAnswer::Refused(r) => {
-            return CheckAnswer::Refused(r);
-        }
-        CheckAnswer::Fine => {}
-    }
-    if is_text(bytes_of(file, major, table, slots, m)) {
-        return CheckAnswer::Fine;
-    }
-    CheckAnswer::Refused(Refusal { number: 9, place })
-}
-
-// That an index names a slot, and that this is a Utf8 entry and text.
-pub fn check_utf8_index(
-    file: &[u8],
-    major: u16,
-    table: &[u32],
-    slots: usize,
-    place: usize,
-    m: usize,
-) -> CheckAnswer
-    ensures { Is reading_check (utf8_at (seen file.now major table.now slots) place m) result }
-{
-    match check_range(file, major, table, slots, place, m) {
-        CheckAnswer::Refused(r) => CheckAnswer::Refused(r),
-        CheckAnswer::Fine => check_utf8(file, major, table, slots, place, m),
-    }
+    ascii::is_ascii(t) || text::is_text(t)
 }
 
 // Whether a text is of a grammar.
@@ -188,105 +68,157 @@ fn is_simple(grammar: Grammar, t: &[u8]) -> bool
     match grammar {
         Grammar::Unqualified => ascii::is_ascii_name(t),
         Grammar::Binary => ascii::is_ascii_binary(t),
-        Grammar::ModuleName => false,
-        Grammar::FieldDescriptor => false,
-        Grammar::MethodDescriptor => false,
+        Grammar::ModuleName | Grammar::FieldDescriptor | Grammar::MethodDescriptor => false,
     }
-}
-
-// That slot m is text of a grammar, else the refusal of that number. Its bytes are found once.
-pub fn check_text(
-    grammar: Grammar,
-    number: u8,
-    file: &[u8],
-    major: u16,
-    table: &[u32],
-    slots: usize,
-    place: usize,
-    m: usize,
-) -> CheckAnswer
-    ensures { Is reading_check (text_of (good grammar) number (seen file.now major table.now slots) place m) result }
-{
-    match check_kind(file, major, table, slots, place, pool::UTF8, m) {
-        CheckAnswer::Refused(r) => {
-            return CheckAnswer::Refused(r);
-        }
-        CheckAnswer::Fine => {}
-    }
-    let t = bytes_of(file, major, table, slots, m);
-    if is_simple(grammar, t) {
-        return CheckAnswer::Fine;
-    }
-    if is_text(t) {
-        if is_good(grammar, t) {
-            return CheckAnswer::Fine;
-        }
-        return CheckAnswer::Refused(Refusal { number, place });
-    }
-    CheckAnswer::Refused(Refusal { number: 9, place })
 }
 
 // That a text is a class name; the first byte of a bad one tells 11 from 10.
-fn judge_class_name(t: &[u8], place: usize) -> CheckAnswer
-    ensures { Is reading_check (class_name t.now place) result }
+#[tactic(auto, unfolding(crate::specs::Slots::class_name))]
+fn judge_class_name(t: &[u8], place: usize) -> Answer<()>
+    ensures { Is answered (class_name t.now place) result }
 {
-    if text::is_binary_name(t) {
-        return CheckAnswer::Fine;
-    }
-    if descriptors::is_array_descriptor(t) {
-        return CheckAnswer::Fine;
+    if text::is_binary_name(t) || descriptors::is_array_descriptor(t) {
+        return Ok(());
     }
     if descriptors::stands_at(t, 0, b'[') {
-        return CheckAnswer::Refused(Refusal { number: 11, place });
+        return Err(Reason::BadDescriptor.at(place));
     }
-    CheckAnswer::Refused(Refusal { number: 10, place })
+    Err(Reason::BadName.at(place))
 }
 
-// That slot m is a class's name.
-pub fn check_class_name(
-    file: &[u8],
-    major: u16,
-    table: &[u32],
-    slots: usize,
-    place: usize,
-    m: usize,
-) -> CheckAnswer
-    ensures { Is reading_check (class_text (seen file.now major table.now slots) place m) result }
-{
-    match check_kind(file, major, table, slots, place, pool::UTF8, m) {
-        CheckAnswer::Refused(r) => {
-            return CheckAnswer::Refused(r);
-        }
-        CheckAnswer::Fine => {}
+impl<'a> Pool<'a> {
+    // How many slots there are: no more than the table has cells.
+    pub fn count(&self) -> usize
+        ensures { result ≡ slots (shown self.now) }
+    {
+        self.slots.min(self.table.len())
     }
-    let t = bytes_of(file, major, table, slots, m);
-    if ascii::is_ascii_binary(t) {
-        return CheckAnswer::Fine;
-    }
-    if is_text(t) {
-        return judge_class_name(t, place);
-    }
-    CheckAnswer::Refused(Refusal { number: 9, place })
-}
 
-// That slot m is a NameAndType whose descriptor is of a grammar: one step, where the Rust calls itself.
-pub fn check_typed(
-    grammar: Grammar,
-    file: &[u8],
-    major: u16,
-    table: &[u32],
-    slots: usize,
-    place: usize,
-    m: usize,
-) -> CheckAnswer
-    ensures { Is reading_check (typed (good grammar) (seen file.now major table.now slots) place m) result }
-{
-    match check_kind(file, major, table, slots, place, pool::NAME_AND_TYPE, m) {
-        CheckAnswer::Refused(r) => {
-            return CheckAnswer::Refused(r);
+    // That m is a slot.
+    pub fn check_range(&self, place: usize, m: usize) -> Answer<()>
+        ensures { Is answered (in_range (shown self.now) place m) result }
+    {
+        if self.count() <= m {
+            return Err(Reason::NoSlot.at(place));
         }
-        CheckAnswer::Fine => {}
+        Ok(())
     }
-    let d = field_of(file, major, table, slots, m, 3);
-    check_text(grammar, 11, file, major, table, slots, place, d as usize)
+
+    // Cell n of the slots; 0 for what is no slot, as the definition has it.
+    pub fn cell(&self, n: usize) -> u32
+        ensures { result ≡ cell (shown self.now) n }
+    {
+        if self.count() <= n {
+            return 0;
+        }
+        self.table[n]
+    }
+
+    // The tag of slot n; 0 for Zero, Unused and what is no slot. A number and no `Kind`: its clause says the tag.
+    #[tactic(auto, unfolding(crate::specs::Slots::tag_of))]
+    pub fn tag(&self, n: usize) -> u8
+        ensures { result ≡ tag_of (shown self.now) n }
+    {
+        let c = self.cell(n);
+        if c == 0 {
+            return 0;
+        }
+        reads::byte_at(self.file, c as usize)
+    }
+
+    // The u2 that stands k bytes after slot n's tag byte.
+    #[tactic(auto, unfolding(crate::specs::Slots::field))]
+    pub fn field(&self, n: usize, k: u8) -> u16
+        ensures { result ≡ field (shown self.now) n k }
+    {
+        let c = self.cell(n);
+        reads::pair_at(self.file, c as usize + k as usize)
+    }
+
+    // The bytes of the Utf8 entry in slot m, a part of the file.
+    #[tactic(auto, unfolding(crate::specs::Slots::bytes_of))]
+    pub fn bytes(&self, m: usize) -> &'a [u8]
+        ensures { result.now ≡ bytes_of (shown self.now) m }
+    {
+        let c = self.cell(m);
+        let n = self.field(m, 1);
+        reads::part(self.file, c as usize + 3, n as usize)
+    }
+
+    // That slot m is of an allowed kind.
+    #[tactic(auto, unfolding(crate::specs::Slots::of_kind))]
+    pub fn check_kind(&self, place: usize, allowed: u32, m: usize) -> Answer<()>
+        ensures { Is answered (of_kind (shown self.now) place allowed m) result }
+    {
+        if has_kind(allowed, self.tag(m)) {
+            return Ok(());
+        }
+        Err(Reason::OtherKind.at(place))
+    }
+
+    // That slot m is a Utf8 entry and text.
+    #[tactic(auto, unfolding(crate::specs::Slots::text_at))]
+    pub fn check_utf8(&self, place: usize, m: usize) -> Answer<()>
+        ensures { Is answered (text_at (shown self.now) place m) result }
+    {
+        self.check_kind(place, pool::UTF8, m)?;
+        if is_text(self.bytes(m)) {
+            return Ok(());
+        }
+        Err(Reason::NoText.at(place))
+    }
+
+    // That an index names a slot, and that this is a Utf8 entry and text.
+    #[tactic(auto, unfolding(crate::specs::Slots::utf8_at))]
+    pub fn check_utf8_index(&self, place: usize, m: usize) -> Answer<()>
+        ensures { Is answered (utf8_at (shown self.now) place m) result }
+    {
+        self.check_range(place, m)?;
+        self.check_utf8(place, m)
+    }
+
+    // That slot m is text of a grammar, else the refusal of that number. Its bytes are found once.
+    #[tactic(auto, unfolding(crate::specs::Slots::text_of, crate::specs::Slots::text_at))]
+    pub fn check_text(&self, grammar: Grammar, number: u8, place: usize, m: usize) -> Answer<()>
+        ensures { Is answered (text_of (good grammar) number (shown self.now) place m) result }
+    {
+        self.check_kind(place, pool::UTF8, m)?;
+        let t = self.bytes(m);
+        if is_simple(grammar, t) {
+            return Ok(());
+        }
+        if !is_text(t) {
+            return Err(Reason::NoText.at(place));
+        }
+        if is_good(grammar, t) {
+            return Ok(());
+        }
+        Err(Refusal { number, place })
+    }
+
+    // That slot m is a class's name.
+    #[tactic(auto, unfolding(crate::specs::Slots::class_text, crate::specs::Slots::class_name, crate::specs::Slots::text_at))]
+    pub fn check_class_name(&self, place: usize, m: usize) -> Answer<()>
+        ensures { Is answered (class_text (shown self.now) place m) result }
+    {
+        self.check_kind(place, pool::UTF8, m)?;
+        let t = self.bytes(m);
+        if ascii::is_ascii_binary(t) {
+            return Ok(());
+        }
+        if is_text(t) {
+            return judge_class_name(t, place);
+        }
+        Err(Reason::NoText.at(place))
+    }
+
+    // That slot m is a NameAndType whose descriptor is of a grammar: one step, where the Rust calls itself.
+    #[tactic(auto, unfolding(crate::specs::Slots::typed))]
+    pub fn check_typed(&self, grammar: Grammar, place: usize, m: usize) -> Answer<()>
+        ensures { Is answered (typed (good grammar) (shown self.now) place m) result }
+    {
+        self.check_kind(place, pool::NAME_AND_TYPE, m)?;
+        let d = self.field(m, 3);
+        self.check_text(grammar, Reason::BadDescriptor as u8, place, d as usize)
+    }
 }

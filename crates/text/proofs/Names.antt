@@ -7,8 +7,10 @@ use mathlib.Core.List.{List, [], ◌∷◌}
 use mathlib.Core.Bool.{Bool, true, false, cond, not, ◌&&◌, ◌||◌}
 use lib.ListN.{length, drop, get_or, drop_of_length-le}
 use lib.Seq.{drop-cons}
+use lib.Pointwise.{pointwise}
+use Rattle.std.specs.List.{prefix_len}
 use lib.Dec.{eqb, ltb, eqb-suc-suc, eqb-zero-suc}
-use borrow.Author.Tests.{eq-eqb, eqb-true, lt-ltb, not-true, not-false}
+use borrow.Author.Tests.{eq-eqb, eqb-true, lt-ltb}
 use Rattle.text.proofs.Laws.{and_assoc, and_both}
 use Rattle.text.specs.Text.{one_of, none_of, before, same, marks, angles, method_marks, plain, unqualified, onto, split, all_of, binary, follows, walked, whole}
 use Rattle.text.specs.Text.{escaped, escape, module_byte, module_form}
@@ -40,35 +42,19 @@ agree false false f g = refl
 pub decides : (r : Bool) (a b : List ℕ) → (r ≡ true → a ≡ b) × (a ≡ b → r ≡ true) → r ≡ same a b
 decides r a b e = agree r (same a b) (λ h. subst (λ (l : List ℕ). same a l ≡ true) (e.0 h) (same_refl a)) (λ h. e.1 (same_eq a b h))
 
+-- what `==` of two slices answers
+pub pointwise_same : (a b : List ℕ) → pointwise eqb a b ≡ same a b
+unfolding same
+pointwise_same [] [] = refl
+pointwise_same [] (y ∷ ys) = refl
+pointwise_same (x ∷ xs) [] = refl
+pointwise_same (x ∷ xs) (y ∷ ys) = rw (pointwise_same xs ys)
+
 -- ---- the byte at an index, and the end
 
 module _ (s : List ℕ) (i : ℕ) where
   pub at : i < length s → drop i s ≡ get_or s i 0 ∷ drop (i + 1) s
   at h = rw (add-one, drop-cons s i 0)
-
-  module _ (b : ℕ) where
-    pub one_of_in : i < length s → one_of (drop i s) b ≡ eqb b (get_or s i 0) || one_of (drop (i + 1) s) b
-    unfolding one_of
-    one_of_in h = ap (λ (l : List ℕ). one_of l b) (at h)
-
-    pub one_of_out : length s ≤ i → one_of (drop i s) b ≡ false
-    unfolding one_of
-    one_of_out h = rw (drop_of_length-le s h)
-
-  module _ (cs : List ℕ) where
-    before_in : i < length s → before cs (drop i s) ≡ cond (one_of cs (get_or s i 0)) 0 (suc (before cs (drop (i + 1) s)))
-    unfolding before
-    before_in h = ap (before cs) (at h)
-
-    pub before_go : i < length s → not (one_of cs (get_or s i 0)) ≡ true → before cs (drop i s) ≡ suc (before cs (drop (i + 1) s))
-    before_go h e = rw (before_in h, not-true (one_of cs (get_or s i 0)) e)
-
-    pub before_stop : i < length s → not (one_of cs (get_or s i 0)) ≡ false → before cs (drop i s) ≡ 0
-    before_stop h e = rw (before_in h, not-false (one_of cs (get_or s i 0)) e)
-
-    pub before_out : length s ≤ i → before cs (drop i s) ≡ 0
-    unfolding before
-    before_out h = rw (drop_of_length-le s h)
 
   module _ (seen : Bool) where
     pub walked_in : i < length s → walked seen (drop i s) ≡ cond (follows seen (get_or s i 0)) (suc (walked (not (eqb (get_or s i 0) 0x2F)) (drop (i + 1) s))) 0
@@ -97,6 +83,16 @@ walked_le seen (b ∷ bs) = go (follows seen b) (walked_le (not (eqb b 0x2F)) bs
     go false h = omega arith
 
 -- ---- none of some bytes: all stand before the first of them
+
+-- the bytes before the first of cs are the longest beginning that has none
+pub before_prefix : (cs bs : List ℕ) → prefix_len (λ b. not (one_of cs b)) bs ≡ before cs bs
+unfolding before
+before_prefix cs [] = refl
+before_prefix cs (b ∷ bs) = go (one_of cs b) (before_prefix cs bs)
+  where
+    go : (t : Bool) → prefix_len (λ c. not (one_of cs c)) bs ≡ before cs bs → cond (not t) (1 + prefix_len (λ c. not (one_of cs c)) bs) 0 ≡ cond t 0 (suc (before cs bs))
+    go true e = refl
+    go false e = omega arith
 
 pub none_before : (cs bs : List ℕ) → none_of cs bs ≡ eqb (before cs bs) (length bs)
 unfolding none_of before
@@ -202,6 +198,11 @@ pub module_some : (t : List ℕ) → 0 < length t → module_form t ≡ cond (es
 unfolding module_form
 module_some [] h = omega arith
 module_some (b ∷ bs) h = refl
+
+pub module_escape : (t : List ℕ) → escape t ≡ true → module_form t ≡ 2
+unfolding module_form escape
+module_escape [] h = cc
+module_escape (b ∷ bs) h = rw h
 
 pub module_in : (bs : List ℕ) → module_form bs ≤ length bs
 unfolding module_form escape

@@ -2,7 +2,7 @@
 use Prim.Native.Nat.{ℕ, zero, suc, ◌+◌, ◌-◌, ◌≤◌}
 use native.Mathlib.Omega.{arith}
 use native.Mathlib.Nat.{zero-add}
-use mathlib.Core.Path.{◌≡◌, refl, sym, ◌∙◌}
+use mathlib.Core.Path.{◌≡◌, refl, sym}
 use mathlib.Core.List.{List, [], ◌∷◌}
 use lib.ListN.{length, take, drop, length-drop, drop_of_length-le}
 use lib.Seq.{take_all, drop-drop}
@@ -47,22 +47,17 @@ module _ (piece : List ℕ → ℕ) where
   abbrev pub Runs : List ℕ → ℕ → Type 0
   Runs s i = (i ≤ length s) × (i + run piece (drop i s) ≡ run piece s)
 
-  module _ (inside : (bs : List ℕ) → piece bs ≤ length bs) (s : List ℕ) where
+  module _ (s : List ℕ) where
     pub start : Runs s 0
     start = (omega arith, zero-add _)
 
-    -- a piece lies inside what is left
-    pub fits : (i n : ℕ) → n ≡ piece (drop i s) → n ≤ length s - i
-    fits i n e = omega (arith, inside (drop i s), length-drop i s)
+    pub turn : (i n : ℕ) → Runs s i → n ≡ piece (drop i s) → n ≤ length (drop i s) → Runs s (i + n)
+    turn i n r e h =
+        let u = run_step n (drop i s) (sym e) h in
+        (omega (arith, length-drop i s), rw (← drop-drop) (omega arith))
 
-    pub turn : (i n : ℕ) → Runs s i → n ≡ piece (drop i s) → Runs s (i + n)
-    turn i n r e =
-        let h = fits i n e in
-        let u = run_step n (drop i s) (sym e) (rw length-drop h) in
-        (omega arith, rw (← drop-drop) (omega arith))
-
-    pub stop : (i n : ℕ) → Runs s i → n ≡ piece (drop i s) → n ≡ 0 → i ≡ run piece s
-    stop i n r e z = let u = run_stop (drop i s) (sym e ∙ z) in omega arith
+    pub stop : (i : ℕ) → Runs s i → 0 ≡ piece (drop i s) → i ≡ run piece s
+    stop i r e = let u = run_stop (drop i s) (sym e) in omega arith
 
     pub done : (i : ℕ) → Runs s i → length s ≤ i → i ≡ run piece s
     unfolding covered

@@ -1,8 +1,8 @@
 -- Where the bytes of a Utf8 slot stand: in the file, and they are these bytes. Assumes nothing.
 use mathlib.Core.Path.{◌≡◌, refl, sym, ◌∙◌, subst}
-use mathlib.Core.Bool.{Bool, true, false}
+use mathlib.Core.Bool.{Bool, true, false, cond}
 use mathlib.Core.List.{List, []}
-use Prim.Native.Nat.{ℕ, ◌+◌, ◌-◌, ◌≤◌, ◌<◌}
+use Prim.Native.Nat.{ℕ, ◌+◌, ◌-◌, ◌≤◌, ◌<◌, min}
 use native.Mathlib.Omega.{arith}
 use lib.ListN.{length, take, drop}
 use lib.Dec.{leb}
@@ -19,6 +19,14 @@ use Rattle.values.specs.Lookups.{utf8, cut, span_of, span_at, span_in, bytes_at,
 -- ---- a place that is cut at the end of the file
 
 module _ (s : List ℕ) where
+  pub least : (at : ℕ) → min at (length s) ≡ cut s at
+  unfolding cut
+  least at = by_test (leb at (length s)) refl
+    where
+      by_test : (b : Bool) → leb at (length s) ≡ b → min at (length s) ≡ cond b at (length s)
+      by_test true e = let h = leb-true _ _ e in omega arith
+      by_test false e = let h = leb-false _ _ e in omega arith
+
   cut_in : (at : ℕ) → at ≤ length s → cut s at ≡ at
   unfolding cut
   cut_in at h = simp (le-leb _ _ h)

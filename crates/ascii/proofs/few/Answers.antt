@@ -1,17 +1,17 @@
 -- `ascii::few` meets its contract. Assumes nothing.
-use Rattle.ascii.proofs.Windows.{begin, done, byte_on, byte_stop}
-use mathlib.Core.Path.{ap}
-use mathlib.Core.Bool.{not}
+use Prim.Native.Nat.{ℕ}
+use mathlib.Core.List.{[], ◌∷◌}
+use mathlib.Core.Path.{◌∙◌}
+use borrow.Author.Rules.{rules}
+use borrow.Author.Tests.{tests}
+use Rattle.std.proofs.lemmas.Iterator.{YieldsList-from_slice}
+use Rattle.std.proofs.lemmas.Iterator.Search.{all_from_yields_List}
+use Rattle.ascii.specs.Ascii.{every}
+use Rattle.ascii.proofs.Windows.{every_all}
 use Rattle.ascii.proofs.few.Goals as goal
 
-pub loop-i-init : goal.loop-i-init
-loop-i-init c = begin c.args.name c.args.s.now
-
-pub returns-then-not-is_fine_byte : goal.returns-then-not-is_fine_byte
-returns-then-not-is_fine_byte c = byte_stop _ _ _ _ c.loop-i.invariant c.loop-i-test.true c.is_fine_byte.ensures (ap not c.if-not-is_fine_byte.true)
-
-pub loop-i-preserved : goal.loop-i-preserved
-loop-i-preserved c = byte_on _ _ _ _ c.loop-i.invariant c.loop-i-test.true c.is_fine_byte.ensures (ap not c.if-not-is_fine_byte.false)
-
 pub returns : goal.returns
-returns c = done _ _ _ c.loop-i.invariant c.loop-i-test.false
+returns c =
+    let s = c.args.s.now in
+    all_from_yields_List (λ (b : ℕ). every c.args.name (b ∷ [])) _ _ _ c.all.ensures.ran (YieldsList-from_slice s cc) (λ x b q k. search (rules, tests))
+    ∙ every_all c.args.name s

@@ -6,4 +6,4 @@ use Rattle.ascii.proofs.join4.Goals as goal
 
 pub returns : goal.returns
 unfolding packed bytes
-returns c = (omega arith, omega arith, simp (lt-ltb c.args.a 256 (omega arith), lt-ltb c.args.b 256 (omega arith), lt-ltb c.args.c 256 (omega arith), lt-ltb c.args.d 256 (omega arith)))
+returns c = (let e = c.from_le_bytes.ensures in omega arith, omega arith, simp (lt-ltb c.args.a 256 (omega arith), lt-ltb c.args.b 256 (omega arith), lt-ltb c.args.c 256 (omega arith), lt-ltb c.args.d 256 (omega arith)))

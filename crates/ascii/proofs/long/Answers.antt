@@ -1,25 +1,30 @@
 -- `ascii::long` meets its contract. Assumes nothing.
-use Prim.Native.Nat.{◌-◌}
+use Prim.Native.Nat.{◌/◌}
 use native.Mathlib.Omega.{arith}
-use mathlib.Core.Path.{◌∙◌}
+use mathlib.Core.Path.{◌≡◌}
+use mathlib.Core.Bool.{true, false}
 use lib.ListN.{length}
+use borrow.Author.Rules.{rules}
+use borrow.Author.Tests.{tests}
+use Rattle.std.specs.List.{list_all}
+use Rattle.std.specs.Simd.{first_chunks}
+use Rattle.std.proofs.lemmas.Iterator.{YieldsList-from_slice}
+use Rattle.std.proofs.lemmas.Iterator.Search.{all_from_yields_List}
 use Rattle.ascii.specs.Ascii.{every}
-use Rattle.ascii.proofs.Windows.{begin, eight_on, eight_stop, every_join, last_eight}
-use mathlib.Core.Path.{ap}
-use mathlib.Core.Bool.{not}
+use Rattle.ascii.proofs.Windows.{every_words, last_word}
 use Rattle.ascii.proofs.long.Goals as goal
 
-pub loop-i-init : goal.loop-i-init
-loop-i-init c = begin c.args.name c.args.s.now
+pub returns-else-all : goal.returns-else-all
+returns-else-all c =
+    let s = c.args.s.now in
+    let name = c.args.name in
+    let words : c.all.result ≡ list_all (every name) (first_chunks 8 (length s / 8) s) = all_from_yields_List (every name) _ _ _ c.all.ensures.ran (YieldsList-from_slice _ cc) (λ x b q k. search (rules, tests)) in
+    every_words name s _ false _ (omega arith) words c.if-all.false c.if-all.false
 
-pub returns-then-not-stretch : goal.returns-then-not-stretch
-returns-then-not-stretch c = eight_stop _ _ _ _ c.loop-i.invariant c.stretch.ensures (ap not c.if-not-stretch.true)
-
-pub loop-i-preserved : goal.loop-i-preserved
-loop-i-preserved c = eight_on _ _ _ _ c.loop-i.invariant c.loop-i-test.true c.stretch.ensures (ap not c.if-not-stretch.false)
-
-pub returns : goal.returns
-returns c =
-    c.stretch-2.ensures
-    ∙ last_eight (every c.args.name) (every_join c.args.name) c.args.s.now c.loop-i.i (length c.args.s.now - 8)
-    c.loop-i.invariant.1 (omega arith) (omega arith)
+pub returns-then-all : goal.returns-then-all
+returns-then-all c =
+    let s = c.args.s.now in
+    let name = c.args.name in
+    let words : c.all.result ≡ list_all (every name) (first_chunks 8 (length s / 8) s) = all_from_yields_List (every name) _ _ _ c.all.ensures.ran (YieldsList-from_slice _ cc) (λ x b q k. search (rules, tests)) in
+    every_words name s _ true _ (omega arith) words c.if-all.true
+    (last_word (every name) s _ _ c.last_chunk.result c.last_chunk.ensures.cases (omega arith) c.is_some_and.ensures (λ w q. search (rules, tests)))

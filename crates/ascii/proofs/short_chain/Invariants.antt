@@ -1,11 +1,8 @@
 -- What holds at each turn of the loop.
-use Prim.Native.Nat.{◌-◌}
-use lib.ListN.{length}
-use Rattle.ascii.proofs.Chains.{Chained}
+use mathlib.Core.Path.{◌≡◌}
+use lib.ListN.{drop}
+use Rattle.ascii.specs.Ascii.{linked, pairs}
 use Rattle.ascii.proofs.short_chain.Given as goal
 
-abbrev pub invariant-loop-j : goal.invariant-loop-j
-invariant-loop-j l = Chained l.s l.j
-
-abbrev pub decreases-loop-j : goal.decreases-loop-j
-decreases-loop-j l = length l.s - l.j
+abbrev pub invariant-loop-b : goal.invariant-loop-b
+invariant-loop-b l = linked (pairs l.before (drop l.b-index l.s)) ≡ linked (pairs 0x2F l.s)

@@ -1,38 +1,30 @@
 -- `bootstrap::gather` meets its contract. Assumes nothing.
-use native.Mathlib.Omega.{arith}
-use mathlib.Core.Path.{refl, ap, ◌∙◌}
-use lib.ListN.{get_or}
-use Rattle.pool.specs.Pool.{seen}
+use Rattle.std.proofs.Common.{arith, rules, ap, length, ◌∙◌}
+use mathlib.Core.Logic.{inl, inr}
+use Rattle.slot.specs.Shown.{shown}
 use Rattle.bootstrap.specs.declared.Found.{Found}
-use Rattle.bootstrap.specs.Indices.{gathered}
-use Rattle.bootstrap.proofs.Gathered.{gather_go, no_name, no_body, none_left, joined_one}
+use Rattle.bootstrap.proofs.Gathered.{gather_go, no_name, no_body, joined_one}
 use Rattle.bootstrap.proofs.gather.Goals as goal
 
-pub loop-left-init : goal.loop-left-init
-loop-left-init c = (refl, omega (arith, c.ranges.count))
+pub loop-name-init : goal.loop-name-init
+loop-name-init c = search rules
 
-pub returns-then-titles-i : goal.returns-then-titles-i
-returns-then-titles-i c =
-    no_name (seen c.args.file.now c.args.major c.args.table.now c.args.slots) c.args.titles.now c.args.bodies.now c.loop-left.left
-    c.loop-left.i c.loop-left.found c.if-titles-i.true ∙ c.loop-left.invariant.0
+pub join-found-requires : goal.join-found-requires
+join-found-requires c = omega (arith, ap length c.in-Some.ensures.steps.0)
 
-pub returns-then-bodies-i : goal.returns-then-bodies-i
-returns-then-bodies-i c =
-    no_body (seen c.args.file.now c.args.major c.args.table.now c.args.slots) c.args.titles.now c.args.bodies.now c.loop-left.left
-    c.loop-left.i c.loop-left.found c.if-bodies-i.true ∙ c.loop-left.invariant.0
-
-pub loop-left-preserved : goal.loop-left-preserved
-loop-left-preserved c = (
-  ap (gathered _ _ _) c.join-found.ensures ∙ gather_go _ _ _ _ _ _ c.loop-left-test.true c.if-titles-i.false c.if-bodies-i.false ∙ c.loop-left.invariant.0,
+pub loop-name-preserved : goal.loop-name-preserved
+loop-name-preserved c = (
+  gather_go (shown c.args.p.now) c.loop-name.found _ _ _ _ _ _ _ c.in-Some.ensures.steps.0 c.in-Some.ensures.steps.1 c.join-found.ensures ∙ c.loop-name.invariant.0,
   omega (
     arith,
     ap (λ (f : Found). f.count) c.join-found.ensures,
-    joined_one (seen c.args.file.now c.args.major c.args.table.now c.args.slots) c.loop-left.found (get_or
-        c.args.titles.now c.loop-left.i 0) (get_or c.args.bodies.now c.loop-left.i 0),
+    ap length c.in-Some.ensures.steps.0,
+    joined_one (shown c.args.p.now) c.loop-name.found c.in-Some.name.now c.in-Some.body.now,
   ),
 )
 
 pub returns : goal.returns
-returns c =
-    none_left (seen c.args.file.now c.args.major c.args.table.now c.args.slots) c.args.titles.now c.args.bodies.now c.loop-left.left c.loop-left.i
-    c.loop-left.found (omega arith) ∙ c.loop-left.invariant.0
+returns c = elim c.in-None.ensures.steps [
+  | inl h ↦ no_name (shown c.args.p.now) c.loop-name.found _ _ h.1.0 ∙ c.loop-name.invariant.0
+  | inr h ↦ no_body (shown c.args.p.now) c.loop-name.found _ _ h.1.0 ∙ c.loop-name.invariant.0
+]

@@ -1,43 +1,27 @@
--- `afresh::check_afresh` meets its contract. Assumes nothing.
-use mathlib.Core.Path.{ap, ◌∙◌}
-use Prim.Native.Nat.{ℕ}
-use lib.ListN.{replicate}
-use Rattle.reads.specs.Promise.{reading_check}
-use Rattle.reads.proofs.Answers.{got}
-use Rattle.pool.specs.Readings.{reading_pool}
+-- `byte_tables::check_afresh` meets its contract. Assumes nothing.
+use Rattle.std.proofs.Common.{ℕ, ◌∙◌, ap, replicate}
+use Rattle.reads.proofs.Passed.{passed}
 use Rattle.byte_tables.proofs.Gate.{not_read, read, left_zero, left_unread, left_read}
 use Rattle.byte_tables.proofs.check_afresh.Goals as goal
 
-pub returns-in-Refused-clause-answer : goal.returns-in-Refused-clause-answer
-returns-in-Refused-clause-answer c =
-    let n = got reading_pool c.in-Refused.is c.read_entries.ensures.answer in
-    not_read _ _ _ _ _ n
+pub returns-in_err-h-clause-answer : goal.returns-in_err-h-clause-answer
+returns-in_err-h-clause-answer c = rw (passed _ _ c.from_residual.ensures) (not_read _ _ _ _ _ c.in_err-h.ensures.answer)
 
-pub returns-in-Refused-clause-cells : goal.returns-in-Refused-clause-cells
-returns-in-Refused-clause-cells c =
-    let n = got reading_pool c.in-Refused.is c.read_entries.ensures.answer in
-    left_unread _ _ _ _ _ _ n c.read_entries.ensures.table
+pub returns-in_err-h-clause-cells : goal.returns-in_err-h-clause-cells
+returns-in_err-h-clause-cells c = left_unread _ _ _ _ _ _ c.in_err-h.ensures.answer c.read_entries.ensures.table
 
-pub returns-in-Refused-check_bytes-clause-answer : goal.returns-in-Refused-check_bytes-clause-answer
-returns-in-Refused-check_bytes-clause-answer c =
-    let b = got reading_check c.in-Refused-check_bytes.is c.check_bytes.ensures in
-    let r = read _ _ _ _ _ _ (got reading_pool c.in-Accepted.is c.read_entries.ensures.answer, c.read_entries.ensures.table) b in
-    r
+pub returns-in-Err-clause-answer : goal.returns-in-Err-clause-answer
+returns-in-Err-clause-answer c = read _ _ _ _ _ _ (c.in_ok-h.ensures.answer, c.read_entries.ensures.table) c.in-Err.ensures
 
-pub returns-in-Refused-check_bytes-clause-cells : goal.returns-in-Refused-check_bytes-clause-cells
-returns-in-Refused-check_bytes-clause-cells c =
-    let b = got reading_check c.in-Refused-check_bytes.is c.check_bytes.ensures in
-    let r = read _ _ _ _ _ _ (got reading_pool c.in-Accepted.is c.read_entries.ensures.answer, c.read_entries.ensures.table) b in
+pub returns-in-Err-clause-cells : goal.returns-in-Err-clause-cells
+returns-in-Err-clause-cells c =
+    let r = read _ _ _ _ _ _ (c.in_ok-h.ensures.answer, c.read_entries.ensures.table) c.in-Err.ensures in
     left_zero _ _ _ _ _ _ r (c.clear.ensures ∙ ap (λ (k : ℕ). replicate k 0) c.read_entries.auto.table)
 
-pub returns-in-Fine-clause-answer : goal.returns-in-Fine-clause-answer
-returns-in-Fine-clause-answer c =
-    let b = got reading_check c.in-Fine.is c.check_bytes.ensures in
-    let r = read _ _ _ _ _ _ (got reading_pool c.in-Accepted.is c.read_entries.ensures.answer, c.read_entries.ensures.table) b in
-    r
+pub returns-clause-answer : goal.returns-clause-answer
+returns-clause-answer c = read _ _ _ _ _ _ (c.in_ok-h.ensures.answer, c.read_entries.ensures.table) c.in_default.ensures
 
-pub returns-in-Fine-clause-cells : goal.returns-in-Fine-clause-cells
-returns-in-Fine-clause-cells c =
-    let b = got reading_check c.in-Fine.is c.check_bytes.ensures in
-    let r = read _ _ _ _ _ _ (got reading_pool c.in-Accepted.is c.read_entries.ensures.answer, c.read_entries.ensures.table) b in
+pub returns-clause-cells : goal.returns-clause-cells
+returns-clause-cells c =
+    let r = read _ _ _ _ _ _ (c.in_ok-h.ensures.answer, c.read_entries.ensures.table) c.in_default.ensures in
     left_read _ _ _ _ r c.read_entries.ensures.table

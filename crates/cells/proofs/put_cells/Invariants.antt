@@ -1,11 +1,7 @@
 -- What holds at each turn of the loop.
-use Prim.Native.Nat.{◌-◌}
-use lib.ListN.{length}
+use Rattle.std.proofs.Common.{map}
 use Rattle.cells.proofs.Filling.{Sofar}
 use Rattle.cells.proofs.put_cells.Given as goal
 
 abbrev pub invariant-loop-i : goal.invariant-loop-i
-invariant-loop-i l = Sofar l.cells l.initial.table l.table l.i
-
-abbrev pub decreases-loop-i : goal.decreases-loop-i
-decreases-loop-i l = length l.cells - l.i
+invariant-loop-i g l = Sofar (map g.T.Cell.number l.numbers) l.initial.table l.table l.i

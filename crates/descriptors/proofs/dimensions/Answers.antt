@@ -1,27 +1,21 @@
--- `descriptors::dimensions` meets its contract. The loop's invariant: the `[` from `i` on end where those of the whole do. Assumes nothing.
-use native.Mathlib.Nat.{zero-add}
-use native.Mathlib.Omega.{arith}
-use borrow.Author.Tests.{eq-eqb, ne_eqb}
-use Rattle.descriptors.proofs.Types.{depth_in, depth_out}
+-- `descriptors::dimensions` meets its contract. Assumes nothing.
+use mathlib.Core.Path.{◌∙◌}
+use Prim.Native.Nat.{ℕ}
+use lib.Dec.{eqb}
+use borrow.Author.Rules.{rules}
+use borrow.Author.Tests.{tests}
+use Rattle.std.proofs.lemmas.Iterator.{YieldsList-from_slice}
+use Rattle.std.proofs.lemmas.Iterator.Consumers.{count_from_yields_List}
+use Rattle.std.proofs.lemmas.Iterator.Search.{YieldsList-from_take_while}
+use Rattle.std.proofs.lemmas.List.Folds.{length-prefix_len}
+use Rattle.descriptors.proofs.Types.{depth_prefix}
 use Rattle.descriptors.proofs.dimensions.Goals as goal
-
-pub loop-i-init : goal.loop-i-init
-loop-i-init c = (omega arith, zero-add _)
-
-pub returns-then-s-i-ne91 : goal.returns-then-s-i-ne91
-returns-then-s-i-ne91 c =
-    let h = c.loop-i-test.true in
-    let e = simp (depth_in, ne_eqb _ _ c.if-s-i-ne91.true) at c.loop-i.invariant.1 in
-    omega arith
-
-pub loop-i-preserved : goal.loop-i-preserved
-loop-i-preserved c =
-    let h = c.loop-i-test.true in
-    let e = simp (depth_in, eq-eqb _ _ c.if-s-i-ne91.false) at c.loop-i.invariant.1 in
-    (omega arith, omega arith)
 
 pub returns : goal.returns
 returns c =
-    let h = c.loop-i-test.false in
-    let e = simp depth_out at c.loop-i.invariant.1 in
-    omega arith
+    let s = c.args.s.now in
+    let test = λ (b : ℕ). eqb b 0x5B in
+    count_from_yields_List c.take_while.result _ c.count.ensures.ran
+    (YieldsList-from_take_while _ test (YieldsList-from_slice {s = c.take_while.result.iter} s cc) c.take_while.ensures.closure c.take_while.ensures.done (λ x b q k. search (rules, tests)))
+    ∙ length-prefix_len test s
+    ∙ depth_prefix s

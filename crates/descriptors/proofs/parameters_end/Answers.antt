@@ -8,14 +8,14 @@ use Rattle.descriptors.proofs.Types.{closing_none}
 use Rattle.text.proofs.Runs.{part, run_in}
 use Rattle.descriptors.proofs.parameters_end.Goals as goal
 
-pub returns-then-s-eq0 : goal.returns-then-s-eq0
-returns-then-s-eq0 c = closing_none _ c.if-s-eq0.true
+pub returns-in-empty : goal.returns-in-empty
+returns-in-empty c = closing_none _ (omega arith)
 
 pub overflow_add-result : goal.overflow_add-result
 overflow_add-result c =
-    let e = rw part at c.types_length.ensures in
+    let e = rw part at c.run.ensures in
     omega (arith, run_in type_length (drop 1 c.args.s.now), length-drop 1 c.args.s.now)
 
-pub returns : goal.returns
+pub returns-in-len1-up : goal.returns-in-len1-up
 unfolding closing
-returns c = ap (λ (n : ℕ). n + 1) (rw part at c.types_length.ensures)
+returns-in-len1-up c = ap (λ (n : ℕ). n + 1) (rw part at c.run.ensures)

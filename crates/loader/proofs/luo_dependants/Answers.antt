@@ -4,6 +4,3 @@ use Rattle.loader.proofs.luo_dependants.Goals as goal
 
 pub returns-clause-answer : goal.returns-clause-answer
 returns-clause-answer c = listed_told _ _ _ _ _ _ c.list_dependants.ensures.answer c.list_numbers.ensures
-
-pub returns-clause-list : goal.returns-clause-list
-returns-clause-list c = c.list_dependants.ensures.list

@@ -1,10 +1,7 @@
 -- `loader::luo_dynamic32` meets its contract. Assumes nothing.
-use mathlib.Core.Path.{refl}
 use Rattle.lookups.specs.Lookups.{dynamic_at}
-use Rattle.questions.specs.Replies.{indexed_values}
-use Rattle.numbers.specs.Numbers.{dynamic_of, dynamic_numbers}
-use Rattle.loader.proofs.Thin.{through, plain}
+use Rattle.loader.proofs.Thin.{dynamic_told}
 use Rattle.loader.proofs.luo_dynamic32.Goals as goal
 
 pub returns : goal.returns
-returns c = through dynamic_of indexed_values dynamic_numbers (plain _ _ _ (λ a. refl) (λ nr place. refl)) (dynamic_at c.args.slot) _ _ _ _ c.dynamic_answer.ensures c.answer.ensures
+returns c = rw (c.dynamic_answer.ensures, c.answer.ensures) (dynamic_told (dynamic_at c.args.slot) _ _)

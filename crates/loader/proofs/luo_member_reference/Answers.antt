@@ -1,10 +1,7 @@
 -- `loader::luo_member_reference` meets its contract. Assumes nothing.
-use mathlib.Core.Path.{refl}
 use Rattle.lookups.specs.Lookups.{member_at}
-use Rattle.questions.specs.Replies.{member_values}
-use Rattle.numbers.specs.Numbers.{member_of, member_numbers}
-use Rattle.loader.proofs.Thin.{through, plain}
+use Rattle.loader.proofs.Thin.{member_told}
 use Rattle.loader.proofs.luo_member_reference.Goals as goal
 
 pub returns : goal.returns
-returns c = through member_of member_values member_numbers (plain _ _ _ (λ a. refl) (λ nr place. refl)) (member_at c.args.slot) _ _ _ _ c.member_answer.ensures c.ask.ensures
+returns c = rw (c.member_answer.ensures, c.ask.ensures) (member_told (member_at c.args.slot) _ _)

@@ -1,10 +1,7 @@
 -- `loader::luo_package_name` meets its contract. Assumes nothing.
-use mathlib.Core.Path.{refl}
 use Rattle.lookups.specs.Lookups.{package_at}
-use Rattle.questions.specs.Replies.{slot_values}
-use Rattle.numbers.specs.Numbers.{slot_of, slot_numbers}
-use Rattle.loader.proofs.Thin.{through, plain}
+use Rattle.loader.proofs.Thin.{slot_told}
 use Rattle.loader.proofs.luo_package_name.Goals as goal
 
 pub returns : goal.returns
-returns c = through slot_of slot_values slot_numbers (plain _ _ _ (λ a. refl) (λ nr place. refl)) (package_at c.args.slot) _ _ _ _ c.slot_answer.ensures c.ask.ensures
+returns c = rw (c.slot_answer.ensures, c.ask.ensures) (slot_told (package_at c.args.slot) _ _)

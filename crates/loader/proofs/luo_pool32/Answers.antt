@@ -3,7 +3,4 @@ use Rattle.loader.proofs.Few.{pool_told}
 use Rattle.loader.proofs.luo_pool32.Goals as goal
 
 pub returns-clause-answer : goal.returns-clause-answer
-returns-clause-answer c = pool_told _ (λ i. (c.shared_slice_known-1.given i).fits) _ _ _ c.read_pool.ensures.answer c.pool_numbers.ensures
-
-pub returns-clause-table : goal.returns-clause-table
-returns-clause-table c = c.read_pool.ensures.table
+returns-clause-answer c = pool_told _ (λ i. (c.type_inv.file i).fits) _ _ _ c.read_pool.ensures.answer c.pool_numbers.ensures

@@ -1,16 +1,9 @@
 -- `reads::clear` meets its contract. Assumes nothing.
-use native.Mathlib.Omega.{arith}
-use Rattle.reads.proofs.Tables.{zero_none, zero_more, zero_all}
+use Rattle.std.proofs.Common.{◌<◌, arith, length, add-one}
+use Rattle.reads.proofs.Tables.{filled_more}
 use Rattle.reads.proofs.clear.Goals as goal
 
-pub loop-i-init : goal.loop-i-init
-loop-i-init c = zero_none _
-
-pub loop-i-preserved : goal.loop-i-preserved
-loop-i-preserved c = zero_more _ _ _ c.loop-i.invariant (omega arith)
-
-pub shape_of-table : goal.shape_of-table
-shape_of-table c = c.loop-i.invariant.long
-
-pub returns : goal.returns
-returns c = zero_all _ _ _ c.loop-i.invariant (omega arith)
+pub loop-cell-preserved : goal.loop-cell-preserved
+loop-cell-preserved g c =
+    let h : c.loop-cell.cell-index < length c.args.table.now = omega arith in
+    rw (c.loop-cell.invariant, c.ZERO.ensures, add-one) (filled_more _ _ _ h)

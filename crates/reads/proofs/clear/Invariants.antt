@@ -1,11 +1,6 @@
 -- What holds at each turn of the loop.
-use Prim.Native.Nat.{◌-◌}
-use lib.ListN.{length}
-use Rattle.reads.proofs.Tables.{Zeroed}
+use Rattle.std.proofs.Common.{◌≡◌, ◌++◌, drop, replicate}
 use Rattle.reads.proofs.clear.Given as goal
 
-abbrev pub invariant-loop-i : goal.invariant-loop-i
-invariant-loop-i l = Zeroed l.initial.table l.table l.i
-
-abbrev pub decreases-loop-i : goal.decreases-loop-i
-decreases-loop-i l = length l.initial.table - l.i
+abbrev pub invariant-loop-cell : goal.invariant-loop-cell
+invariant-loop-cell g l = l.table ≡ replicate l.cell-index g.T.Zero.ZERO ++ drop l.cell-index l.initial.table

@@ -1,3 +1,4 @@
+-- `records::member_records` meets its contract. Assumes nothing.
 use Rattle.std.proofs.Common.{refl, arith}
 use Rattle.records.specs.Records.{member_of}
 use Rattle.records.proofs.Filled.{fill, fill_more, filled_at}

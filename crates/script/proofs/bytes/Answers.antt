@@ -1,29 +1,22 @@
--- `script::bytes` meets its contract. The loop's invariant: what is left to fill gives what the whole word gives. Assumes nothing.
-use native.Mathlib.Omega.{arith}
-use mathlib.Core.Path.{refl}
-use Rattle.script.proofs.Scripts.{cut_short, full, no_pair, says_within, turn}
+-- `script::bytes` meets its contract. Assumes nothing.
+use Rattle.std.proofs.Common.{◌<◌, sym, ◌∙◌, ap, arith, length, set, ◌+◌, ◌≡◌}
+use Rattle.std.proofs.lemmas.List.{set-get_or, length-set}
+use Rattle.script.specs.Script.{filled}
+use Rattle.script.proofs.Scripts.{part, filled_short, filled_none, filled_full, filled_on}
 use Rattle.script.proofs.bytes.Goals as goal
 
-pub loop-n-init : goal.loop-n-init
-loop-n-init c = (omega arith, omega arith, refl, refl)
+pub returns-in_default-clause-says : goal.returns-in_default-clause-says
+returns-in_default-clause-says c = rw set-get_or (sym (filled_short _ _ _ c.in_default.len_below) ∙ c.loop-n.invariant.1)
 
-pub shape_of-out-then-word-i-lt2 : goal.shape_of-out-then-word-i-lt2
-shape_of-out-then-word-i-lt2 c = c.loop-n.invariant.2
-
-pub returns-then-word-i-lt2 : goal.returns-then-word-i-lt2
-returns-then-word-i-lt2 c = says_within (cut_short _ _ _ _ _ c.loop-n.invariant c.if-word-i-lt2.true)
-
-pub shape_of-out-then-b-gt255 : goal.shape_of-out-then-b-gt255
-shape_of-out-then-b-gt255 c = c.loop-n.invariant.2
-
-pub returns-then-b-gt255 : goal.returns-then-b-gt255
-returns-then-b-gt255 c = says_within (no_pair _ _ _ _ _ c.loop-n.invariant _ _ _ c.loop-n-test.true c.if-word-i-lt2.false c.join-b.ensures c.digit_of.ensures.0 c.digit_of-in-loop-n.ensures.0 c.if-b-gt255.true)
+pub returns-in_default-join-clause-says : goal.returns-in_default-join-clause-says
+returns-in_default-join-clause-says c = rw set-get_or (sym (filled_none _ _ _ c.in-len2-up.len_at_least (omega (arith, c.loop-n-test.true, c.loop-n.auto.out)) c.in_default-join.ensures) ∙ c.loop-n.invariant.1)
 
 pub loop-n-preserved : goal.loop-n-preserved
-loop-n-preserved c = turn _ _ _ _ _ c.loop-n.invariant _ _ _ c.loop-n-test.true c.if-word-i-lt2.false c.join-b.ensures c.digit_of.ensures.0 c.digit_of-in-loop-n.ensures.0 c.if-b-gt255.false
+loop-n-preserved c =
+    let room : c.loop-n.n < length c.loop-n.out = omega (arith, c.loop-n-test.true, c.loop-n.auto.out) in
+    let rest = ap (λ w. filled w (set c.loop-n.out c.loop-n.n c.in-Some.b) (c.loop-n.n + 1)) (part 2 c.loop-n.left.now) in
+    let pair = filled_on c.loop-n.left.now c.loop-n.out c.loop-n.n c.in-Some.b c.in-len2-up.len_at_least room c.in-Some.ensures in
+    (simp length-set (omega arith), rest ∙ sym pair ∙ c.loop-n.invariant.1)
 
-pub shape_of-out : goal.shape_of-out
-shape_of-out c = c.loop-n.invariant.2
-
-pub returns : goal.returns
-returns c = says_within (full _ _ _ _ _ c.loop-n.invariant c.loop-n-test.false)
+pub returns-clause-says : goal.returns-clause-says
+returns-clause-says c = let e = filled_full c.loop-n.left.now c.loop-n.out c.loop-n.n (omega arith) in let k : length c.loop-n.out ≡ c.loop-n.n = omega arith in rw k (sym e ∙ c.loop-n.invariant.1)

@@ -1,28 +1,22 @@
--- `text::plain_length` meets its contract. The loop's invariant: the first mark from `i` on is the first of all. Assumes nothing.
-use native.Mathlib.Nat.{zero-add}
-use native.Mathlib.Omega.{arith}
-use mathlib.Core.Path.{sym, ◌∙◌}
-use Rattle.text.specs.Text.{name_marks}
-use Rattle.text.proofs.Names.{before_go, before_stop, before_out}
+-- `text::plain_length` meets its contract. Assumes nothing.
+use mathlib.Core.Bool.{not}
+use mathlib.Core.Path.{◌∙◌}
+use Prim.Native.Nat.{ℕ}
+use borrow.Author.Rules.{rules}
+use borrow.Author.Tests.{tests}
+use Rattle.std.proofs.lemmas.Iterator.{YieldsList-from_slice}
+use Rattle.std.proofs.lemmas.Iterator.Consumers.{count_from_yields_List}
+use Rattle.std.proofs.lemmas.Iterator.Search.{YieldsList-from_take_while}
+use Rattle.std.proofs.lemmas.List.Folds.{length-prefix_len}
+use Rattle.text.specs.Text.{one_of, name_marks}
+use Rattle.text.proofs.Names.{before_prefix}
 use Rattle.text.proofs.plain_length.Goals as goal
-
-pub loop-i-init : goal.loop-i-init
-loop-i-init c = (omega arith, zero-add _)
-
-pub returns-then-not-is_name_char : goal.returns-then-not-is_name_char
-returns-then-not-is_name_char c =
-    let u = before_stop c.args.s.now c.loop-i.i (name_marks c.args.in_method) c.loop-i-test.true
-    (sym c.is_name_char.ensures ∙ c.if-not-is_name_char.true) in
-    omega arith
-
-pub loop-i-preserved : goal.loop-i-preserved
-loop-i-preserved c =
-    let u = before_go c.args.s.now c.loop-i.i (name_marks c.args.in_method) c.loop-i-test.true
-    (sym c.is_name_char.ensures ∙ c.if-not-is_name_char.false) in
-    (omega arith, omega arith)
 
 pub returns : goal.returns
 returns c =
-    let h = c.loop-i-test.false in
-    let e = simp before_out at c.loop-i.invariant.1 in
-    omega arith
+    let s = c.args.s.now in
+    let test = λ (b : ℕ). not (one_of (name_marks c.args.in_method) b) in
+    count_from_yields_List c.take_while.result _ c.count.ensures.ran
+    (YieldsList-from_take_while _ test (YieldsList-from_slice {s = c.take_while.result.iter} s cc) c.take_while.ensures.closure c.take_while.ensures.done (λ x b q k. search (rules, tests)))
+    ∙ length-prefix_len test s
+    ∙ before_prefix (name_marks c.args.in_method) s

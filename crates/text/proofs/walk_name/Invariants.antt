@@ -1,5 +1,5 @@
 -- What holds at each turn of the loop.
-use Prim.Native.Nat.{◌+◌, ◌-◌, ◌≤◌}
+use Prim.Native.Nat.{◌+◌, ◌≤◌}
 use mathlib.Core.Bool.{false}
 use mathlib.Core.Path.{◌≡◌}
 use lib.ListN.{length, drop}
@@ -8,6 +8,3 @@ use Rattle.text.proofs.walk_name.Given as goal
 
 abbrev pub invariant-loop-i : goal.invariant-loop-i
 invariant-loop-i l = (l.i ≤ length l.s) × ((l.i + walked l.seen (drop l.i l.s) ≡ walked false l.s) × (whole l.seen (drop l.i l.s) ≡ whole false l.s))
-
-abbrev pub decreases-loop-i : goal.decreases-loop-i
-decreases-loop-i l = length l.s - l.i

@@ -1,8 +1,4 @@
 -- `values::utf8_part` meets its contract. Assumes nothing.
-use mathlib.Core.Path.{refl, ap, ◌∙◌}
-use native.Mathlib.Nat.{add_comm}
-use Prim.Native.Nat.{◌+◌}
-use Rattle.values.specs.declared.Span.{Span}
 use Rattle.values.proofs.Parts.{part}
 use borrow.Author.Rules.{rules}
 use Rattle.values.proofs.utf8_part.Goals as goal
@@ -17,13 +13,4 @@ pub slice_bounds-result-end : goal.slice_bounds-result-end
 slice_bounds-result-end c = let h = part _ _ _ _ c.utf8_span-s.ensures in search rules
 
 pub returns-clause-bytes : goal.returns-clause-bytes
-returns-clause-bytes c =
-    let a = c.args in
-    let e = c.utf8_span-s.ensures in
-    (part _ _ _ _ e).2
-
-pub returns-clause-place : goal.returns-clause-place
-returns-clause-place c =
-    let a = c.args in
-    let e = c.utf8_span-s.ensures in
-    (refl, add_comm c.utf8_span-s.result.from a.file.ref_ptr.1 ∙ ap (λ (p : Span). a.file.ref_ptr.1 + p.from) e)
+returns-clause-bytes c = (part _ _ _ _ c.utf8_span-s.ensures).2

@@ -1,6 +1,0 @@
--- `script::cells` meets its contract. Assumes nothing.
-use Rattle.script.proofs.Scripts.{as_long}
-use Rattle.script.proofs.cells.Goals as goal
-
-pub returns : goal.returns
-returns c = as_long 65536

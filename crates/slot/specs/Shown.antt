@@ -1,0 +1,6 @@
+-- The code's own notion: the pool that the code's struct shows. Assumes nothing.
+use Rattle.pool.specs.Pool.{Pool, seen}
+use Rattle.slot.specs.declared.Pool.{Pool as Lent}
+
+abbrev pub shown : Lent → Pool
+shown p = seen p.file.now p.major p.table.now p.slots
