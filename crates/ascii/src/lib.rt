@@ -30,6 +30,7 @@ fn four(s: &[u8], i: usize) -> u64
 }
 
 // The four bytes from one place on and the four from another.
+// Of two fours: with `u64::from_le_bytes` of the eight bytes, tried, the equation with `packed (take 4 .. ++ take 4 ..)` stayed open.
 fn eight(s: &[u8], i: usize, j: usize) -> u64
     requires { (i + 4 ≤ length s.now) × (j + 4 ≤ length s.now) }
     ensures { (result ≡ packed (take 4 (drop i s.now) ++ take 4 (drop j s.now))) × (bytes (take 4 (drop i s.now) ++ take 4 (drop j s.now)) ≡ true) }
@@ -155,7 +156,7 @@ pub fn is_ascii(s: &[u8]) -> bool
 pub fn is_ascii_name(s: &[u8]) -> bool
     ensures { result ≡ ascii s.now && unqualified s.now }
 {
-    0 < s.len() && is_every(true, s)
+    !s.is_empty() && is_every(true, s)
 }
 
 // Whether a byte can follow another in a binary name.
@@ -177,7 +178,7 @@ fn is_linked8(v: u64, w: u64) -> bool
     ((v & HIGHS == 0) & is_plain(w)) & (stops & lacks((w ^ SLASHES) | (v ^ SLASHES), 0))
 }
 
-// The same of the eight after a place.
+// Whether each of the eight bytes after a place can follow the one before it.
 fn link(s: &[u8], j: usize) -> bool
     requires { j + 9 ≤ length s.now }
     ensures { result ≡ linked (take 8 (drop (j + 1) (pairs 0x2F s.now))) }
@@ -206,7 +207,7 @@ fn chain(s: &[u8]) -> bool
     link(s, k)
 }
 
-// The same of fewer.
+// Whether each byte of a text, however short, can follow the one before it, the first a `/`.
 #[tactic(auto, using(crate::proofs::Chains::linked_on, crate::proofs::Chains::linked_out))]
 fn short_chain(s: &[u8]) -> bool
     ensures { result ≡ linked (pairs 0x2F s.now) }
@@ -226,12 +227,9 @@ fn short_chain(s: &[u8]) -> bool
 pub fn is_ascii_binary(s: &[u8]) -> bool
     ensures { result ≡ ascii s.now && binary s.now }
 {
-    if s.len() == 0 {
-        return false;
-    }
-    let k = s.len() - 1;
-    if s[k] == b'/' {
-        return false;
+    match s.last() {
+        None | Some(b'/') => return false,
+        _ => {}
     }
     if 9 <= s.len() {
         return chain(s);

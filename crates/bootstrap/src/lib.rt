@@ -124,10 +124,7 @@ pub fn check_own(p: &Pool, at: usize, name: u16, start: usize, end: usize) -> An
 fn lesser(least: Option<u16>, n: u16) -> u16
     ensures { result ≡ lesser least n }
 {
-    match least {
-        None => n,
-        Some(m) => m.min(n),
-    }
+    least.map_or(n, |m| m.min(n))
 }
 
 // What was found so far, and one attribute more.
@@ -173,10 +170,7 @@ fn is_dynamic(tag: u8) -> bool
 fn is_below(i: u16, least: Option<u16>) -> bool
     ensures { result ≡ below i least }
 {
-    match least {
-        None => true,
-        Some(m) => i < m,
-    }
+    least.is_none_or(|m| i < m)
 }
 
 // The index of slot n, where it is a Dynamic or an InvokeDynamic.

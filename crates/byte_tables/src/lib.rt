@@ -19,6 +19,7 @@ fn check_bytes(p: &Pool, table: &[u8]) -> Answer<()>
     ensures { Is answered (agree (shown p.now).cells (cells_in table.now)) result }
 {
     let end = table.len() / 4;
+    // By number: the other cell and the place need it too, and an iterator over `as_chunks::<4>()` would have `cell_at` here once more.
     for i in 0..end {
         handed::same_cell(cells::cell_at(table, i), p.cell(i), i)?;
     }
@@ -35,12 +36,7 @@ pub fn check_afresh(file: &[u8], table: &[u8], cells: &mut [u32]) -> Answer<()>
     ensures cells { cells.new ≡ after 0 (λ w. w.pool.cells) (length cells.old) (taken file.now (cells_in table.now) (length cells.old)) }
 {
     let h = pool::read_entries(file, cells)?;
-    let p = Pool {
-        file,
-        major: h.major,
-        table: cells,
-        slots: h.slots,
-    };
+    let p = Pool::of(file, &h, cells);
     if let Err(r) = check_bytes(&p, table) {
         reads::clear(cells);
         return Err(r);

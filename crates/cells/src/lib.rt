@@ -5,6 +5,7 @@ ghost use Rattle.std.specs.Prelude.{◌≡◌, ◌*◌, ◌/◌, ◌≤◌, ℕ,
 ghost use Rattle.cells.specs.Cells.{cells_in, cell_bytes, as_bytes};
 
 // Cell i of a table that is bytes; 0 past its cells.
+// By four places and not by `as_chunks::<4>()`: tried, and `map_or` of the chunk at i ≡ `get_or (cells_in table) i 0` stayed open.
 pub fn cell_at(table: &[u8], i: usize) -> u32
     ensures { result ≡ get_or (cells_in table.now) i 0 }
 {

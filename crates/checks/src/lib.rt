@@ -167,12 +167,7 @@ pub fn read_pool(file: &[u8], table: &mut [u32]) -> Answer<Head>
     ensures table { table.new ≡ after 0 (λ w. w.pool.cells) (length table.old) (pool file.now (length table.old)) }
 {
     let h = pool::read_entries(file, table)?;
-    let p = Pool {
-        file,
-        major: h.major,
-        table,
-        slots: h.slots,
-    };
+    let p = Pool::of(file, &h, table);
     if let Err(r) = check_pool(&p) {
         reads::clear(table);
         return Err(r);

@@ -95,7 +95,7 @@ module _ (s : List ℕ) (room len : ℕ) (c : Columns) where
         λ i. record { cells = t i; interfaces = l i }
 
     abbrev seen_by : FrontValue → Pool
-    seen_by x = seen s x.major table x.slots
+    seen_by x = seen s x.pool.major table x.pool.slots
 
     its_pool : seen_by f ≡ q.pool.pool
     its_pool = ap seen_by (sym got_front.2) ∙ same_pool s room q.pool had_pool table (λ i. (filled i).cells)
@@ -105,13 +105,13 @@ module _ (s : List ℕ) (room len : ℕ) (c : Columns) where
       long = subst (λ (x : Columns). Long x c) (sym z) (cleared_long c)
 
       abbrev asked : Answer Tables
-      asked = tables_at (marked f.flags) (seen_by f) (member_room c₁) (attribute_room c₁) f.next
+      asked = tables_at (marked f.class.flags) (seen_by f) (member_room c₁) (attribute_room c₁) f.interfaces.next
 
       abbrev theirs : Answer Tables
       theirs = tables_at (marked q.head.flags) q.pool.pool (member_room c) (attribute_room c) q.next
 
       same : asked ≡ theirs
-      same = λ i. tables_at (marked (sym got_front.2 i).flags) (its_pool i) (same_room c₁ c long i) (same_limit c₁ c long i) (sym got_front.2 i).next
+      same = λ i. tables_at (marked (sym got_front.2 i).class.flags) (its_pool i) (same_room c₁ c long i) (same_limit c₁ c long i) (sym got_front.2 i).interfaces.next
 
       tableless : (nr place : ℕ) → refuse nr place ≡ theirs → refuse nr place ≡ whole
       unfolding class_file

@@ -123,7 +123,7 @@ module _ (s : List ℕ) (room len : ℕ) where
       complete m k = rw (← got_pool.1, ← (g ∙ same_head), ← k)
 
       pub good_front : (l : Listed) (list : List ℕ) → accept l ≡ mapped listed_of (interfaces_at (seen_by h) len (h.next + 6)) → list ≡ after 0 (λ m. m.list) len (interfaces_at (seen_by h) len (h.next + 6))
-          → Fronts (accept (record { slots = h.slots; minor = h.minor; major = h.major; flags = c.flags; this = c.this; parent = c.parent; interfaces = l.count; next = l.next })) (record { cells = table; interfaces = list })
+          → Fronts (accept (record { pool = h; class = c; interfaces = l })) (record { cells = table; interfaces = list })
       good_front l list k v =
           let m = whole_only listed_of (interfaces_at (seen_by h) len (h.next + 6)) l k in
           let y = complete m.0 (m.1 ∙ same_list) in
@@ -131,7 +131,7 @@ module _ (s : List ℕ) (room len : ℕ) where
           let a = sym got_pool.2 in
           let b = sym m.2 in
           let d : record { cells = table; interfaces = list } ≡ fronted room len (record { pool = w; head = c; interfaces = m.0.list; next = m.0.end }) = λ i. record { cells = cells i; interfaces = x i } in
-          ((λ i. accept (record { slots = (a i).slots; minor = (a i).minor; major = (a i).major; flags = c.flags; this = c.this; parent = c.parent; interfaces = (b i).count; next = (b i).next })) ∙ ap (mapped front_of) y, λ q z. d ∙ ap (fronted room len) (answers.same (y ∙ sym z)))
+          ((λ i. accept (record { pool = a i; class = c; interfaces = b i })) ∙ ap (mapped front_of) y, λ q z. d ∙ ap (fronted room len) (answers.same (y ∙ sym z)))
 
 -- what it says of the pool
 pub front_pool : (s : List ℕ) (room len : ℕ) (q : Front) → accept q ≡ front_at s room len → accept q.pool ≡ pool s room

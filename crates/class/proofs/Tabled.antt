@@ -110,7 +110,7 @@ tables_in interface p room limit at t e =
 
 -- ---- the code's steps
 
-module _ (f : Front) (p : Pool) (c : Columns) (interface : Bool) (ei : interface ≡ marked f.flags) (short : length p.file ≤ 16777216) where
+module _ (f : Front) (p : Pool) (c : Columns) (interface : Bool) (ei : interface ≡ marked f.class.flags) (short : length p.file ≤ 16777216) where
   abbrev room : ℕ
   room = member_room c
 
@@ -118,10 +118,10 @@ module _ (f : Front) (p : Pool) (c : Columns) (interface : Bool) (ei : interface
   limit = attribute_room c
 
   abbrev at : ℕ
-  at = f.next
+  at = f.interfaces.next
 
   abbrev whole : Answer Tables
-  whole = tables_at (marked f.flags) p room limit at
+  whole = tables_at (marked f.class.flags) p room limit at
 
   -- what the call answers, and what it leaves where it accepts
   abbrev pub Leaves : Answer Class → Columns → Type 0
@@ -241,8 +241,9 @@ module _ (f : Front) (p : Pool) (c : Columns) (interface : Bool) (ei : interface
           let m : ms.end.used ≡ length (gathered (of_each g) (fs.list ++ ms.list)) = omega (arith, in_methods.ends.used g, n, l, ap length z) in
           ap (λ (u : List ℕ). placed u ms.end.used (map g o)) (joined t x y fs.end.used n ∙ ap (placed t 0) z) ∙ joined t (gathered (of_each g) (fs.list ++ ms.list)) (map g o) ms.end.used m
 
-      pub all_good : (k : ℕ) (masked : ℕ) (t : Part → List ℕ) → accept k ≡ mapped (λ m. length m.list) own → masked ≡ class_flags f.flags → Accepted own (after_records c₂.attribute b.used) t
-          → Leaves (accept (record { slots = f.slots; minor = f.minor; major = f.major; flags = masked; this = f.this; parent = f.parent; interfaces = f.interfaces; fields = a.count; methods = b.count; used = b.used; own = k })) (record { member = c₂.member; attribute = t })
+      pub all_good : (k : ℕ) (masked : ℕ) (t : Part → List ℕ) → accept k ≡ mapped (λ m. length m.list) own → masked ≡ class_flags f.class.flags → Accepted own (after_records c₂.attribute b.used) t
+          → Leaves (accept (record { slots = f.pool.slots; minor = f.pool.minor; major = f.pool.major; flags = masked; this = f.class.this; parent = f.class.parent; interfaces = f.interfaces.count; fields = a.count; methods = b.count; used = b.used; own = k }))
+          (record { member = c₂.member; attribute = t })
       all_good k masked t e em h =
           let o = whole_only (λ (m : Many Attribute ℕ). length m.list) own k e in
           let w = complete o.0 (o.1 ∙ same₂) ∙ as_asked in
@@ -254,7 +255,7 @@ module _ (f : Front) (p : Pool) (c : Columns) (interface : Bool) (ei : interface
           let q = sym got_fields.2 in
           let r = sym got_methods.2 in
           let n = sym o.2 in (
-            (λ i. accept (record { slots = f.slots; minor = f.minor; major = f.major; flags = em i; this = f.this; parent = f.parent; interfaces = f.interfaces; fields = (q i).count; methods = (r i).count; used = (r i).used; own = n i }))
+            (λ i. accept (record { slots = f.pool.slots; minor = f.pool.minor; major = f.pool.major; flags = em i; this = f.class.this; parent = f.class.parent; interfaces = f.interfaces.count; fields = (q i).count; methods = (r i).count; used = (r i).used; own = n i }))
                 ∙ ap (mapped (filled_of f)) w,
             λ u g. d ∙ ap (after_all c) (answers.same (w ∙ sym g)),
           )

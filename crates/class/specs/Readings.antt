@@ -1,6 +1,7 @@
 -- The code's own notion: what the code keeps of what is read. Assumes nothing.
 use Rattle.std.specs.Prelude.{length}
 use Rattle.reads.specs.Records.{Many}
+use Rattle.pool.specs.Readings.{head_of}
 use Rattle.class.specs.declared.Sorted.{Sorted}
 use Rattle.class.specs.declared.Front.{Front as FrontValue}
 use Rattle.class.specs.declared.Class.{Class as ClassValue}
@@ -13,26 +14,21 @@ sorted_of m = record { count = length m.list; at = m.end.at; used = m.end.used }
 
 abbrev pub front_of : Front → FrontValue
 front_of f = record {
-  slots = length f.pool.pool.cells;
-  minor = f.pool.minor;
-  major = f.pool.pool.major;
-  flags = f.head.flags;
-  this = f.head.this;
-  parent = f.head.parent;
-  interfaces = length f.interfaces;
-  next = f.next;
+  pool = head_of f.pool;
+  class = f.head;
+  interfaces = record { count = length f.interfaces; next = f.next };
 }
 
 -- the answer, once what stands before the members is read, and these
 abbrev pub filled_of : FrontValue → Tables → ClassValue
 filled_of f t = record {
-  slots = f.slots;
-  minor = f.minor;
-  major = f.major;
-  flags = class_flags f.flags;
-  this = f.this;
-  parent = f.parent;
-  interfaces = f.interfaces;
+  slots = f.pool.slots;
+  minor = f.pool.minor;
+  major = f.pool.major;
+  flags = class_flags f.class.flags;
+  this = f.class.this;
+  parent = f.class.parent;
+  interfaces = f.interfaces.count;
   fields = length t.fields;
   methods = length t.methods;
   used = t.used;

@@ -15,7 +15,9 @@ ghost use Rattle.class.specs.Steps.{numbers, parts, columns, limit, SameNumbers,
 ghost use Rattle.class.specs.Readings.{sorted_of, front_of, filled_of, class_of};
 
 use attributes::Attribute;
+use class_head::{ClassHead, Listed};
 use member::{Member, Sort};
+use pool::Head;
 use reads::{Answer, Reason};
 use slot::Pool;
 
@@ -27,17 +29,12 @@ struct Sorted {
     used: usize,
 }
 
-// P, the version, flags as the file has them, the slots of this and super, the number of interfaces, and the byte after them.
+// What stands before the members: the pool, the class's header with its flags as the file has them, and the interfaces.
 #[derive(Clone, Copy)]
 struct Front {
-    slots: usize,
-    minor: u16,
-    major: u16,
-    flags: u16,
-    this: u16,
-    parent: u16,
-    interfaces: u16,
-    next: usize,
+    pool: Head,
+    class: ClassHead,
+    interfaces: Listed,
 }
 
 // What an accepted file answers: P, the version, masked flags, the slots of this and super, how many interfaces, fields and methods there
@@ -264,10 +261,10 @@ fn read_tables(
     ensures same { Same members.old attributes.old members.new attributes.new }
     ensures long { Long (columns members.new attributes.new) (columns members.old attributes.old) }
     ensures answer { let c = columns members.old attributes.old in
-        Is answered (mapped (filled_of f) (tables_at (marked f.flags) (shown p.now) (member_room c) (attribute_room c) f.next)) result }
+        Is answered (mapped (filled_of f) (tables_at (marked f.class.flags) (shown p.now) (member_room c) (attribute_room c) f.interfaces.next)) result }
     ensures tables { let c = columns members.old attributes.old in
         let d = columns members.new attributes.new in
-        Accepted (tables_at (marked f.flags) (shown p.now) (member_room c) (attribute_room c) f.next) (after_all c) d }
+        Accepted (tables_at (marked f.class.flags) (shown p.now) (member_room c) (attribute_room c) f.interfaces.next) (after_all c) d }
 {
     let fields = Sort {
         method: false,
@@ -275,24 +272,24 @@ fn read_tables(
     };
     let methods = Sort {
         method: true,
-        in_interface: is_marked(f.flags),
+        in_interface: is_marked(f.class.flags),
     };
     let start = Sorted {
         count: 0,
-        at: f.next,
+        at: f.interfaces.next,
         used: 0,
     };
     let a = read_sort(fields, p, start, members, attributes)?;
     let b = read_sort(methods, p, a, members, attributes)?;
     let own = read_own(p, b.at, b.used, attributes)?;
     Ok(Class {
-        slots: f.slots,
-        minor: f.minor,
-        major: f.major,
-        flags: mask(f.flags),
-        this: f.this,
-        parent: f.parent,
-        interfaces: f.interfaces,
+        slots: f.pool.slots,
+        minor: f.pool.minor,
+        major: f.pool.major,
+        flags: mask(f.class.flags),
+        this: f.class.this,
+        parent: f.class.parent,
+        interfaces: f.interfaces.count,
         fields: a.count,
         methods: b.count,
         used: b.used,
@@ -317,18 +314,13 @@ fn fill_front(file: &[u8], table: &mut [u32], interfaces: &mut [u16]) -> Answer<
     let c = class_head::read_head(&p, h.next)?;
     let l = class_head::read_interfaces(&p, h.next + 6, interfaces)?;
     Ok(Front {
-        slots: h.slots,
-        minor: h.minor,
-        major: h.major,
-        flags: c.flags,
-        this: c.this,
-        parent: c.parent,
-        interfaces: l.count,
-        next: l.next,
+        pool: h,
+        class: c,
+        interfaces: l,
     })
 }
 
-// The same; after a refusal the table and the list are zero.
+// The pool, the header and the interfaces; after a refusal the table and the list are zero.
 fn read_front(file: &[u8], table: &mut [u32], interfaces: &mut [u16]) -> Answer<Front>
     ensures answer { Is answered (mapped front_of (front_at file.now (length table.old) (length interfaces.old))) result }
     ensures tables { let x = front_at file.now (length table.old) (length interfaces.old) in
@@ -364,9 +356,9 @@ fn read_into(
     let f = read_front(file, table, interfaces)?;
     let p = Pool {
         file,
-        major: f.major,
+        major: f.pool.major,
         table,
-        slots: f.slots,
+        slots: f.pool.slots,
     };
     let answer = read_tables(f, &p, members, attributes);
     if answer.is_err() {

@@ -41,7 +41,7 @@ fn check_class(p: &Pool, place: usize, m: usize) -> Answer<()>
     Err(Reason::BadName.at(place))
 }
 
-// The same, where slot 0 is fine too.
+// That m is the slot of a super class: 0, where there is none, or a slot of kind Class with a binary name.
 #[tactic(auto, unfolding(crate::specs::Header::super_at))]
 fn check_super(p: &Pool, place: usize, m: usize) -> Answer<()>
     ensures { Is answered (super_at (shown p.now) place m) result }

@@ -12,6 +12,7 @@ use Rattle.pool.specs.Named.{kind_of}
 use Rattle.pool.specs.Rows.{row_of}
 use Rattle.pool.specs.Pool.{Pool, Whole, slot_at, header_of, read_pool, slots as slots_of}
 use Rattle.pool.specs.Readings.{head_of}
+use Rattle.pool.specs.declared.Head.{Head}
 use Rattle.pool.proofs.Room.{Bytes}
 use Rattle.pool.proofs.Kind.of.Reads as of_reads
 use Rattle.pool.proofs.row_of.Reads as row_of_reads
@@ -23,6 +24,7 @@ use Rattle.slot.specs.declared.Pool.{Pool as Lent}
 use Rattle.slot.specs.Shown.{shown}
 use Rattle.slot.specs.Slots.{cell, tag_of, field, bytes_of, in_range, of_kind as kind_at, text_at, utf8_at, text_of, class_text, typed}
 use Rattle.slot.specs.Grammars.{good}
+use Rattle.slot.proofs.Pool.of.Reads as pool_reads
 use Rattle.slot.proofs.Pool.count.Reads as count_reads
 use Rattle.slot.proofs.Pool.cell.Reads as cell_reads
 use Rattle.slot.proofs.Pool.tag.Reads as tag_reads
@@ -85,6 +87,9 @@ module _ (file : Bor (List ℕ)) where
 
     pub handed-pool_of : Bytes file.now → (κs : _) → Answers (pool_of_reads.Learnt κs (file, (table, tt))) answered (mapped (lent file table) (handed file.now table.now)) (Among of_handed)
     handed-pool_of b κs = answers (λ z e h. h) (part_handed_only file.now b table.now (lent file table))
+
+    pub slot-of : (κs : _) (head : Bor Head) → Equals {Z = Lent} (pool_reads.Learnt κs (file, (head, (table, tt)))) (record { file = file; major = head.now.major; table = table; slots = head.now.slots })
+    slot-of κs head = gives (λ z e h. h)
 
 pub handed-same_cell : (κs : _) (given made i : ℕ) → Answers (same_cell_reads.Learnt κs (given, (made, (i, tt)))) answered (require (eqb given made) 12 i) (AmongAt of_twelve i)
 handed-same_cell κs given made i = answers (λ z e h. h) (need_here (eqb given made) 12 i refl)

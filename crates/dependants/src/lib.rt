@@ -87,7 +87,7 @@ fn list_at(p: &Pool, n: usize, list: &mut [u16]) -> Answer<usize>
     Ok(count)
 }
 
-// The same of a handed table's pool.
+// The dependants of slot n of a handed table, into the lent list; after a refusal some of the list may be written.
 fn list_of<'a>(file: &'a [u8], table: &'a [u32], n: usize, list: &mut [u16]) -> Answer<usize>
     ensures is { Is answered (mapped length (dependants_of file.now table.now n (length list.old))) result }
     ensures list_after { Accepted (dependants_of file.now table.now n (length list.old)) (λ xs. padded 0 (length list.old) xs) list.new }

@@ -53,6 +53,7 @@ fn is_letter(b: u8) -> bool
 
 // The length of the field type with no `[` that the bytes begin with; 0 where there is none.
 // No match of slice patterns: with it a descriptor of one letter took a third more instructions.
+// No `s.first()`: tried, and `0 < length s` stayed open in the answers after it, as `first` promises a `slice_get`.
 fn base_length(s: &[u8]) -> usize
     ensures { result ≡ base_length s.now }
 {
@@ -96,7 +97,7 @@ impl Piece for FieldTypes {
 pub fn is_field_descriptor(s: &[u8]) -> bool
     ensures { result ≡ field_descriptor s.now }
 {
-    0 < s.len() && type_length(s) == s.len()
+    !s.is_empty() && type_length(s) == s.len()
 }
 
 // Whether the bytes are a field descriptor that begins with `[`.

@@ -50,6 +50,8 @@ fn agreed_to(table: &[u32], same: usize, n: usize, cell: usize) -> usize
 
 // The entries read afresh, each compared with its cell of a handed table. The room is 65,536, more than any pool has slots: a number and
 // no `Option`, since `slot_at` is public and takes the room as one.
+// The walk of `pool::fill`, which stores where this compares: one function over the step would be public in `pool`, with a `requires`
+// (`F.IsAlwaysCallable step`), and no public function has one.
 #[tactic(auto, using(crate::proofs::Walking::begin, crate::proofs::Walking::turn))]
 fn walk(file: &[u8], major: u16, count: u16, table: &[u32]) -> Answer<Walked>
     ensures { Is answered (mapped (walked_of table.now) (all_entries file.now major count no_limit)) result }
@@ -79,6 +81,8 @@ fn walk(file: &[u8], major: u16, count: u16, table: &[u32]) -> Answer<Walked>
 }
 
 // That a table is zero from cell n on.
+// By index: with `table.iter().enumerate().skip(n)`, tried, the four goals that the check finds here alone stay open, first that the
+// cell beside i is the table's at i (`loop-i-preserved`).
 #[tactic(auto, using(reads::proofs::Answers::each_go, reads::proofs::Answers::each_stop, reads::proofs::Answers::each_done), unfolding(crate::specs::Walk::rest))]
 fn check_rest(table: &[u32], n: usize) -> Answer<()>
     ensures { Is answered (rest table.now n) result }
@@ -108,32 +112,22 @@ pub fn check_handed(file: &[u8], table: &[u32]) -> Answer<Head>
 {
     let h = pool::header_of(file)?;
     let w = walk(file, h.major, h.count, table)?;
-    let p = Pool {
-        file,
-        major: h.major,
-        table,
-        slots: w.slots,
-    };
-    judge(&p, w.same)?;
-    Ok(Head {
+    let head = Head {
         slots: w.slots,
         minor: h.minor,
         major: h.major,
         next: w.next,
-    })
+    };
+    judge(&Pool::of(file, &head, table), w.same)?;
+    Ok(head)
 }
 
-// That pool, as checks and lookups see it.
+// The pool of a file whose table is handed in, as checks and lookups see it.
 pub fn pool_of<'a>(file: &'a [u8], table: &'a [u32]) -> Answer<Pool<'a>>
     ensures { Is answered (mapped (lent file.entry table.entry) (handed file.now table.now)) result }
 {
     let h = check_handed(file, table)?;
-    Ok(Pool {
-        file,
-        major: h.major,
-        table,
-        slots: h.slots,
-    })
+    Ok(Pool::of(file, &h, table))
 }
 
 // That slot n is a slot, and of an allowed kind.

@@ -54,20 +54,39 @@ fn quad_at(s: &[u8], at: usize) -> u32
     ])
 }
 
-// Eight of them.
+// Eight bytes at a place of the file, each 0 past its end.
 fn oct_at(s: &[u8], at: usize) -> u64
     requires { at ≤ 4294967296 }
     ensures { result ≡ num8 s.now at }
 {
-    quad_at(s, at) as u64 * 0x1_0000_0000 + quad_at(s, at + 4) as u64
+    u64::from_be_bytes([
+        byte_at(s, at),
+        byte_at(s, at + 1),
+        byte_at(s, at + 2),
+        byte_at(s, at + 3),
+        byte_at(s, at + 4),
+        byte_at(s, at + 5),
+        byte_at(s, at + 6),
+        byte_at(s, at + 7),
+    ])
 }
+
+// The signs of a Float and of a Double, and their infinities: without its sign a NaN is above the infinity. Signs go by `%` and not by
+// `&` with a mask: tried, and `ones f * hid f < bit_and b (top f - 1) → nan_bits f b` stayed open, as the library has it of `% top f`.
+const FLOAT_SIGN: u32 = 0x8000_0000;
+
+const FLOAT_INFINITY: u32 = 0x7F80_0000;
+
+const DOUBLE_SIGN: u64 = 0x8000_0000_0000_0000;
+
+const DOUBLE_INFINITY: u64 = 0x7FF0_0000_0000_0000;
 
 // The Float of 32 bits, or the bits where they are a NaN's.
 #[tactic(auto, using(crate::proofs::Laws::nan_is, crate::proofs::Laws::no_nan), unfolding(crate::specs::Values::single))]
 fn float_of(b: u32) -> Literal
     ensures { Is reading_literal (single b) result }
 {
-    if b % 2147483648 <= 2139095040 {
+    if b % FLOAT_SIGN <= FLOAT_INFINITY {
         return Literal::Float(f32::from_bits(b));
     }
     Literal::FloatNan(b)
@@ -79,7 +98,7 @@ fn float_of(b: u32) -> Literal
 fn double_of(b: u64) -> Literal
     ensures { Is reading_literal (twofold b) result }
 {
-    if b % 9223372036854775808 <= 9218868437227405312 {
+    if b % DOUBLE_SIGN <= DOUBLE_INFINITY {
         return Literal::Double(f64::from_bits(b));
     }
     Literal::DoubleNan(b)

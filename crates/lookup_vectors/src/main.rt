@@ -127,7 +127,7 @@ fn look_up<'a>(
 #[derive(Drop)]
 struct Lookups {
     space: [u8; script::LINE],
-    table: [u32; script::LINE],
+    table: [u32; script::CELLS],
 }
 
 impl Answers for Lookups {

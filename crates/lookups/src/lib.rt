@@ -160,7 +160,7 @@ fn indexed_at(p: &Pool, allowed: u32, n: usize) -> Answer<Indexed>
     Ok(Indexed { index, named })
 }
 
-// ... in slot n of a handed table.
+// What slot n of a handed table, a Dynamic or an InvokeDynamic as asked, names: its index and its NameAndType.
 #[tactic(auto, using(handed::proofs::Handed::on_lent, handed::proofs::Handed::off_lent))]
 fn find_indexed(file: &[u8], table: &[u32], allowed: u32, n: u32) -> Answer<Indexed>
     ensures { Is answered (lookup file.now table.now (indexed_at allowed n)) result }

@@ -129,14 +129,10 @@ fn text_of<'a>(p: &Pool<'a>, slot: u16) -> Text<'a>
 fn is_twice(p: &Pool, name: u16, descriptor: u16, names: &[u16], types: &[u16]) -> bool
     ensures { result ≡ twice (shown p.now) name descriptor names.now types.now }
 {
-    let mine = text_of(p, name);
-    let shape = text_of(p, descriptor);
-    for (m, t) in names.iter().zip(types) {
-        if is_alike(p, &mine, *m) && is_alike(p, &shape, *t) {
-            return true;
-        }
-    }
-    false
+    let my_name = text_of(p, name);
+    let my_descriptor = text_of(p, descriptor);
+    names.iter().zip(types).any(|(m, t)| is_alike(p, &my_name, *m)
+        && is_alike(p, &my_descriptor, *t))
 }
 
 // That slot m is a text that a member may have as its name or its descriptor: which, the reason of the refusal says.

@@ -184,10 +184,7 @@ fn second_width(file: &[u8], b: usize, tag: u8, width: u8) -> Answer<u16>
     }
     if tag == Kind::MethodHandle as u8 {
         let kind = file[b];
-        if kind < 1 {
-            return Err(Reason::Unknown.at(b));
-        }
-        if 9 < kind {
+        if kind < 1 || 9 < kind {
             return Err(Reason::Unknown.at(b));
         }
     }
@@ -257,7 +254,7 @@ fn fill(file: &[u8], major: u16, count: usize, table: &mut [u32]) -> Answer<Made
     ensures is { Is answered (mapped made_of (all_entries file.now major count (length table.old))) result }
     ensures table_after { Accepted (all_entries file.now major count (length table.old)) (λ x. padded 0 (length table.old) x.cells) table.new }
 {
-    if table.len() == 0 {
+    if table.is_empty() {
         return Err(Reason::NoCell.at(0));
     }
     let mut at = 10;

@@ -85,17 +85,17 @@ fn build(line: &[u8], space: &mut [u8]) -> usize
 fn read_file(line: &[u8], space: &mut [u8]) -> usize
     ensures { (result ≤ length space.new) × (length space.new ≡ length space.old) }
 {
-    if script::is(script::word(line, 0), b"fill") {
-        return build(line, space);
+    match script::word(line, 0) {
+        b"fill" => build(line, space),
+        _ => script::bytes(script::word(line, 2), space),
     }
-    script::bytes(script::word(line, 2), space)
 }
 
 // The space that a line's file takes, and the cells that are lent.
 #[derive(Drop)]
 struct Pools {
     space: [u8; script::SPACE],
-    cells: [u32; script::LINE],
+    cells: [u32; script::CELLS],
 }
 
 impl Answers for Pools {
@@ -103,6 +103,7 @@ impl Answers for Pools {
         let n = read_file(line, &mut self.space);
         let room = script::number_up_to(self.cells.len(), script::word(line, 1));
         let file = &self.space[..n];
+        // Two lines: of a part of a field that is an array, as `&mut self.cells[..room]`, the borrow checker does not cover the loan.
         let cells = &mut self.cells[..];
         let table = &mut cells[..room];
         match script::word(line, 0) {

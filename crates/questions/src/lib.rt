@@ -14,6 +14,7 @@ ghost use Rattle.questions.specs.Replies.{none, numbers, slot_values, named_valu
 
 use literal::Literal;
 use lookups::{Held, Indexed, Member, Named};
+use pool::Kind;
 use reads::{Answer, Refusal};
 use values::{Span, Utf8};
 
@@ -141,11 +142,11 @@ fn tag_for(x: Literal) -> u32
     ensures { result ≡ tag_for (reading_literal.read x) }
 {
     match x {
-        Literal::Integer(_) => 3,
-        Literal::Float(_) | Literal::FloatNan(_) => 4,
-        Literal::Long(_) => 5,
-        Literal::Double(_) | Literal::DoubleNan(_) => 6,
-        Literal::Text(_) => 8,
+        Literal::Integer(_) => Kind::Integer as u32,
+        Literal::Float(_) | Literal::FloatNan(_) => Kind::Float as u32,
+        Literal::Long(_) => Kind::Long as u32,
+        Literal::Double(_) | Literal::DoubleNan(_) => Kind::Double as u32,
+        Literal::Text(_) => Kind::String as u32,
     }
 }
 

@@ -155,7 +155,7 @@ pub fn number(word: &[u8]) -> u64
     n
 }
 
-// That number, or the most that is allowed.
+// The number that a decimal word says, or the most that is allowed.
 pub fn number_up_to(most: usize, word: &[u8]) -> usize
     ensures says { result ≡ min (decimal word.now) most }
     ensures within { result ≤ most }
@@ -308,8 +308,11 @@ pub fn run(
 // How many bytes a script has at most, and a file that a line builds.
 pub const SPACE: usize = 2097152;
 
-// How many bytes one line says at most, and how many cells: one for every slot of a pool.
+// How many bytes one line says at most.
 pub const LINE: usize = 65536;
+
+// How many cells a table has at most: one for every slot of a pool.
+pub const CELLS: usize = 65536;
 
 // As many zeros as the array that is asked for has.
 pub fn zeros<T: Copy + Default, const N: usize>() -> [T; N]

@@ -10,6 +10,7 @@ ghost use Rattle.slot.specs.Slots.{cell, tag_of, field, bytes_of, in_range, of_k
 ghost use Rattle.slot.specs.Grammars.{good, simple};
 ghost use Rattle.slot.specs.Shown.{shown};
 
+use pool::Head;
 use reads::{Answer, Reason, Refusal};
 
 // What a text must be. No closure for the rule: with the name both `is_good` and `is_simple` are one table, and a contract says `good grammar`.
@@ -87,6 +88,18 @@ fn judge_class_name(t: &[u8], place: usize) -> Answer<()>
 }
 
 impl<'a> Pool<'a> {
+    // The pool of a head that was read, with the table that its entries were read into.
+    pub fn of(file: &'a [u8], head: &Head, table: &'a [u32]) -> Pool<'a>
+        ensures { result ≡ record { file = file.entry; major = head.now.major; table = table.entry; slots = head.now.slots } }
+    {
+        Pool {
+            file,
+            major: head.major,
+            table,
+            slots: head.slots,
+        }
+    }
+
     // How many slots there are: no more than the table has cells.
     pub fn count(&self) -> usize
         ensures { result ≡ slots (shown self.now) }

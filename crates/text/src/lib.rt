@@ -165,7 +165,7 @@ pub fn plain_length(s: &[u8], in_method: bool) -> usize
 fn is_plain(s: &[u8], in_method: bool) -> bool
     ensures { result ≡ plain in_method s.now }
 {
-    0 < s.len() && plain_length(s, in_method) == s.len()
+    !s.is_empty() && plain_length(s, in_method) == s.len()
 }
 
 // Whether the bytes are an unqualified name.

@@ -29,10 +29,10 @@ fn verdict(command: &[u8], s: &[u8]) -> bool {
 
 // Answers a command on bytes: how many of them are text, or the verdict.
 fn answer(out: &mut impl Write, command: &[u8], s: &[u8]) -> io::Result<()> {
-    if script::is(command, b"text_length") {
-        return writeln!(out, "{}", text::text_length(s));
+    match command {
+        b"text_length" => write!(out, "{}", text::text_length(s))?,
+        _ => script::print_verdict(out, verdict(command, s))?,
     }
-    script::print_verdict(out, verdict(command, s))?;
     script::print(out, b"\n")
 }
 

@@ -22,7 +22,7 @@ pub enum Utf8 {
 }
 
 // A part of the file: its first byte, and the byte after its last. No `Range`: the clauses of `utf8_span` and `utf8_part` name its fields.
-#[derive(Clone, Copy)]
+#[derive(Clone, Copy, Default)]
 pub struct Span {
     pub from: usize,
     pub to: usize,
@@ -88,7 +88,7 @@ fn span_of(p: &Pool, n: usize) -> Span
     }
 }
 
-// ... where slot n is one.
+// Where the bytes of slot n stand, where it is of kind Utf8.
 #[tactic(auto, unfolding(crate::specs::Lookups::span_at))]
 fn span_at(p: &Pool, n: usize) -> Answer<Span>
     ensures { Is answered (span_at n (shown p.now)) result }
@@ -97,7 +97,7 @@ fn span_at(p: &Pool, n: usize) -> Answer<Span>
     Ok(span_of(p, n))
 }
 
-// ... in slot n of a handed table.
+// Where the bytes of slot n of a handed table stand, where it is of kind Utf8.
 #[tactic(auto, using(handed::proofs::Handed::on_lent, handed::proofs::Handed::off_lent))]
 fn find_span(file: &[u8], table: &[u32], n: u32) -> Answer<Span>
     ensures { Is answered (lookup file.now table.now (span_at n)) result }
@@ -110,7 +110,7 @@ fn find_span(file: &[u8], table: &[u32], n: u32) -> Answer<Span>
 pub fn utf8_span<'a>(file: &'a [u8], table: &'a [u32], n: u32) -> Span
     ensures { result ≡ span_in (lookup file.now table.now (span_at n)) }
 {
-    find_span(file, table, n).unwrap_or(Span { from: 0, to: 0 })
+    find_span(file, table, n).unwrap_or_default()
 }
 
 // The bytes of a Utf8 entry, in slot n of a handed table, as a part of the caller's own file; an empty part where `text_or_raw` refuses.

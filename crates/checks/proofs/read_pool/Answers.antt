@@ -10,8 +10,8 @@ returns-in_err-h c = rw (passed _ _ c.from_residual.ensures) (answer_table (not_
 
 pub returns-in-Err : goal.returns-in-Err
 returns-in-Err c =
-    answer_table (bad _ _ _ _ _ _ _ (c.in_ok-h.ensures.answer, c.in_ok-h.ensures.table) c.in-Err.ensures
+    answer_table (bad _ _ _ _ _ _ _ (c.in_ok-h.ensures.answer, c.in_ok-h.ensures.table) (rw c.of-p.ensures at c.in-Err.ensures)
     (c.clear.ensures ∙ ap (λ (k : ℕ). replicate k 0) c.read_entries.auto.table))
 
 pub returns : goal.returns
-returns c = answer_table (good _ _ _ _ (c.in_ok-h.ensures.answer, c.in_ok-h.ensures.table) c.in_default.ensures)
+returns c = answer_table (good _ _ _ _ (c.in_ok-h.ensures.answer, c.in_ok-h.ensures.table) (rw c.of-p.ensures at c.in_default.ensures))

@@ -1,13 +1,14 @@
 -- `pool::fill` meets its contract. Assumes nothing.
 use native.Mathlib.Omega.{arith}
-use mathlib.Core.Path.{◌≡◌}
+use mathlib.Core.Path.{◌≡◌, sym, ◌∙◌}
+use borrow.Author.Tests.{eqb-true}
 use Rattle.reads.proofs.Clauses.{is_table_after}
 use Rattle.reads.proofs.Passed.{passed}
 use Rattle.pool.proofs.Filling.{empty, stopped, full, last, done}
 use Rattle.pool.proofs.fill.Goals as goal
 
-pub returns-then-table-eq0 : goal.returns-then-table-eq0
-returns-then-table-eq0 c = rw c.at.ensures (is_table_after (empty _ _ _ _ _ c.if-table-eq0.true))
+pub returns-then-is_empty : goal.returns-then-is_empty
+returns-then-is_empty c = rw c.at.ensures (is_table_after (empty _ _ _ _ _ (eqb-true _ 0 (sym c.is_empty.ensures ∙ c.if-is_empty.true))))
 
 pub returns-in_err-e : goal.returns-in_err-e
 returns-in_err-e c = rw (passed _ _ c.from_residual.ensures) (is_table_after (stopped _ _ _ _ _ _ _ _ c.loop-n.invariant _ _ c.loop-n-test.true c.in_err-e.ensures))
