@@ -24,8 +24,8 @@ const LOADABLE: u32 = pool::INTEGER
 
 // The body of a BootstrapMethods: the pool that it names slots of, the attribute's first byte, and the byte after the body.
 #[derive(Clone, Copy)]
-struct Body<'p, 'a> {
-    pool: &'p Pool<'a>,
+struct Body<'p, 'f, 't> {
+    pool: &'p Pool<'f, 't>,
     at: usize,
     end: usize,
 }
@@ -57,7 +57,7 @@ fn steps<F: Fn(usize) -> Answer<usize>>(step: F, count: u16, start: usize) -> An
     Ok(i)
 }
 
-impl<'p, 'a> Body<'p, 'a> {
+impl<'p, 'f, 't> Body<'p, 'f, 't> {
     // The u2 at byte i. Most stand in the file too, and one test tells both.
     #[tactic(auto, unfolding(crate::specs::Bootstrap::body_u2))]
     fn number(&self, i: usize) -> Answer<u16>

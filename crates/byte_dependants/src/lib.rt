@@ -35,6 +35,33 @@ fn list_in(
     answer
 }
 
+// The same, of the cells and of the slots only as many as are used.
+fn list_with(
+    file: &[u8],
+    table: &[u8],
+    slot: u32,
+    list: &mut [u8],
+    cells: &mut [u32],
+    slots: &mut [u16],
+    need: usize,
+) -> Answer<usize>
+    requires need { need ≡ enough_for file.now }
+    requires enough { need ≤ length cells.old }
+    requires alike { length slots.old ≡ length cells.old }
+    ensures answer { Is answered (mapped length (dependants_of file.now (cells_in table.now) slot (length list.old / 4))) result }
+    ensures list { list.new ≡ as_bytes (length list.old) (after 0 (λ xs. xs) (length list.old / 4) (dependants_of file.now (cells_in table.now) slot (length list.old / 4))) }
+{
+    let room = need.min(list.len() / 4);
+    list_in(
+        file,
+        table,
+        slot,
+        list,
+        &mut cells[..need],
+        &mut slots[..room],
+    )
+}
+
 // The dependants with N cells and N slots of its own.
 fn list_sized<const N: usize>(
     file: &[u8],
@@ -48,17 +75,9 @@ fn list_sized<const N: usize>(
     ensures list { list.new ≡ as_bytes (length list.old) (after 0 (λ xs. xs) (length list.old / 4) (dependants_of file.now (cells_in table.now) slot (length list.old / 4))) }
 {
     let need = byte_tables::cells_for(file);
-    let room = need.min(list.len() / 4);
     let mut cells = [0u32; N];
     let mut slots = [0u16; N];
-    list_in(
-        file,
-        table,
-        slot,
-        list,
-        &mut cells[..need],
-        &mut slots[..room],
-    )
+    list_with(file, table, slot, list, &mut cells, &mut slots, need)
 }
 
 // Every slot that reaches the slot asked for, rising, into a list that is bytes, a cell each; what is left of the list is zero, and all of

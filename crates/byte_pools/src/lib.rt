@@ -31,6 +31,15 @@ fn pool_in(file: &[u8], table: &mut [u8], cells: &mut [u32]) -> Answer<Head>
     answer
 }
 
+// The same, of the cells only as many as are used.
+fn pool_with(file: &[u8], table: &mut [u8], cells: &mut [u32], used: usize) -> Answer<Head>
+    requires { (used ≡ min (length table.old / 4) (enough_for file.now)) × (used ≤ length cells.old) }
+    ensures answer { Is answered (mapped head_of (pool_of file.now (length table.old / 4))) result }
+    ensures table { table.new ≡ as_bytes (length table.old) (after 0 (λ w. w.pool.cells) (length table.old / 4) (pool_of file.now (length table.old / 4))) }
+{
+    pool_in(file, table, &mut cells[..used])
+}
+
 // The pool with N cells of its own.
 fn pool_sized<const N: usize>(file: &[u8], table: &mut [u8]) -> Answer<Head>
     requires enough { min (length table.old / 4) (enough_for file.now) ≤ N }
@@ -40,7 +49,7 @@ fn pool_sized<const N: usize>(file: &[u8], table: &mut [u8]) -> Answer<Head>
 {
     let used = cells_used(file, table.len() / 4);
     let mut cells = [0u32; N];
-    pool_in(file, table, &mut cells[..used])
+    pool_with(file, table, &mut cells, used)
 }
 
 // The pool of a file, into a lent table that is bytes. Room for so many cells as the table has four bytes; a refusal leaves zeros. The

@@ -178,7 +178,7 @@ on_bytes =
     ∷ row classed_records (with_records 1) (class_a_of, field_record ∷ []) (class_a_of, none ∷ []) (refuse 13 35, none ∷ [])  -- read_class_records
     ∷ row classed_records (with_records 0) (refuse 13 35, []) (class_a_of, []) (refuse 13 33, [])  -- read_class_records, no room for a record
     ∷ row num (get_or (cells_in (0 ∷ 0 ∷ 1 ∷ 2 ∷ 9 ∷ [])) 0 0) 258 513 66051  -- cell_at
-    ∷ row nums (replicate 3 0) (0 ∷ 0 ∷ 0 ∷ []) (0 ∷ 0 ∷ 1 ∷ []) []  -- clear_bytes
+    ∷ row nums (replicate 3 0) (0 ∷ 0 ∷ 0 ∷ []) (0 ∷ 0 ∷ 1 ∷ []) []  -- clear, of bytes
     ∷ row nums (as_bytes 5 (take (5 / 4) (258 ∷ 7 ∷ []))) (0 ∷ 0 ∷ 1 ∷ 2 ∷ 0 ∷ []) (2 ∷ 1 ∷ 0 ∷ 0 ∷ 0 ∷ []) (0 ∷ 0 ∷ 1 ∷ 2 ∷ 7 ∷ [])  -- cells_out
     ∷ row nums (as_bytes 4 (take (4 / 4) (258 ∷ []))) (0 ∷ 0 ∷ 1 ∷ 2 ∷ []) (1 ∷ 2 ∷ 0 ∷ 0 ∷ []) (0 ∷ 0 ∷ 0 ∷ 0 ∷ [])  -- list_out
     ∷ row (λ (o : Check × List ℕ). check o.0 ++ o.1) (afresh_told (0 ∷ 10 ∷ 14 ∷ [])) (refuse 12 2, 0 ∷ 0 ∷ 0 ∷ []) (refuse 12 2, table_e) (refuse 12 3, 0 ∷ 0 ∷ 0 ∷ [])  -- check_afresh

@@ -1,9 +1,13 @@
 -- Worked cases: for the contract of each public call an answer and two that it rules out, a row each. Assumes nothing.
-use Rattle.std.specs.Prelude.{ℕ, ◌+◌, ◌*◌, ◌≡◌, List, [], ◌∷◌, ◌++◌, Bool, true, false, cond, not, ◌&&◌, Option, Some, None, ℤ, pos, negsuc, length, take, drop, replicate, eqb}
+use Rattle.std.specs.Prelude.{ℕ, ◌≡◌, List, [], ◌∷◌, ◌++◌, Bool, true, false, cond, not, ◌&&◌, Option, Some, None, ℤ, pos, negsuc, length, take, drop, replicate, eqb}
 use Rattle.std.specs.Float.{binary32, binary64}
 use Rattle.std.specs.Float.Ieee.{of_bits}
 use Rattle.reads.specs.Answer.{Answer, Check, fine, accept, refuse, mapped, require}
-use Rattle.reads.specs.Bytes.{num1, num2, u1, u2, u4, skipped}
+use Rattle.std.specs.Borrow.{Bor}
+use Rattle.reads.specs.Bytes.{num1, num2, num4, num8, u1, u2, u4, skipped}
+use Rattle.reads.specs.Promise.{refusal, number_of}
+use Rattle.reads.specs.declared.Refusal.{Refusal}
+use Rattle.reads.specs.declared.Reason.TheVariants.{BadName}
 use Rattle.reads.specs.Tables.{after}
 use Rattle.text.specs.Text.{same, run, before, text_form, is_text, unqualified, name_marks, walked, whole, binary, init, clinit, bootstrap_methods, is_init, is_clinit, is_bootstrap_methods, method_name, module_form, module_name}
 use Rattle.descriptors.specs.Descriptors.{stands, field_descriptor, array_descriptor, method_descriptor, returns_void, takes_nothing}
@@ -21,8 +25,10 @@ use Rattle.pool.specs.Pool.{Pool, slots, slot_at, header_of, read_pool}
 use Rattle.pool.specs.Readings.{head_of}
 use Rattle.slot.specs.Slots.{cell, tag_of, field, bytes_of, of_kind, text_at, text_of, class_text, typed}
 use Rattle.checks.specs.Checks.{checked, pool}
+use Rattle.slot.specs.declared.Pool.{Pool as Lent}
 use Rattle.handed.specs.Handed.{handed, lookup, asked}
-use Rattle.literal.specs.Values.{Literal, integer, float, float_nan, long, double, double_nan, string, twos, single, twofold, number_at, bits_in}
+use Rattle.handed.specs.Walk.{lent}
+use Rattle.literal.specs.Values.{Literal, integer, float, float_nan, long, double, double_nan, string, twos, single, twofold, number_at, bits_of, bits_in}
 use Rattle.values.specs.Lookups.{literal_at, text_at as word_at, bytes_at, bytes_in, span_at, span_in}
 use Rattle.values.specs.declared.Span.{Span}
 use Rattle.lookups.specs.Lookups.{class_at, module_at, package_at, method_type_at, named_at, member_at, handle_at, dynamic_at, invoke_dynamic_at}
@@ -115,6 +121,16 @@ tabled f o = answer f o.0 ++ o.1
 abbrev member : Member → List ℕ
 member m = m.tag ∷ m.class ∷ m.name ∷ m.descriptor ∷ []
 
+abbrev told_refusal : Refusal → List ℕ
+told_refusal r = r.number ∷ r.place ∷ []
+
+-- a pool as the code lends it on
+abbrev bor : List ℕ → Bor (List ℕ)
+bor xs = record { ref_ptr = (0, 0); now = xs }
+
+abbrev lent_pool : Lent → List ℕ
+lent_pool p = p.major ∷ p.slots ∷ p.file.now ++ p.table.now
+
 -- ---- what is asked
 
 abbrev pub file_c : List ℕ
@@ -132,6 +148,19 @@ pool_e = record { file = file_e; major = 52; cells = table_e }
 abbrev pool_o : Pool
 pool_o = record { file = file_o; major = 52; cells = table_o }
 
+-- file E and its table lent on, by a head, and as it should be; and its table with a cell more
+abbrev lent_as : ℕ → ℕ → Lent
+lent_as major slots = record { file = bor file_e; major = major; table = bor table_e; slots = slots }
+
+abbrev of_head : Head → Lent
+of_head h = lent_as h.major h.slots
+
+abbrev longer_e : List ℕ
+longer_e = 0 ∷ 10 ∷ 13 ∷ 0 ∷ []
+
+abbrev longer_as : ℕ → Lent
+longer_as slots = record { file = bor file_e; major = 52; table = bor longer_e; slots = slots }
+
 -- ---- reads
 
 abbrev pub reading : List Row
@@ -142,10 +171,11 @@ reading =
     ∷ row (answer num) (skipped (7 ∷ []) 1 0) (accept 1) (refuse 2 1) (accept 0)  -- skip
     ∷ row num (num1 (5 ∷ []) 1) 0 5 1  -- byte_at
     ∷ row num (num2 (1 ∷ 2 ∷ []) 1) 512 258 2  -- pair_at
-    ∷ row num (1 * 65536 + 2) 65538 131073 3  -- join4
-    ∷ row num (1 * 4294967296 + 2) 4294967298 8589934593 3  -- join8
+    ∷ row num (num4 (0 ∷ 1 ∷ 0 ∷ 2 ∷ []) 0) 65538 131073 3  -- quad_at
+    ∷ row num (num8 (0 ∷ 0 ∷ 0 ∷ 1 ∷ 0 ∷ 0 ∷ 0 ∷ 2 ∷ []) 0) 4294967298 8589934593 3  -- oct_at
     ∷ row nums (take 1 (drop 1 (1 ∷ 2 ∷ 3 ∷ []))) (2 ∷ []) (1 ∷ []) (2 ∷ 3 ∷ [])  -- part
-    ∷ row nums (replicate 2 0) (0 ∷ 0 ∷ []) (1 ∷ 1 ∷ []) (0 ∷ [])  -- clear, clear_list
+    ∷ row nums (replicate 2 0) (0 ∷ 0 ∷ []) (1 ∷ 1 ∷ []) (0 ∷ [])  -- clear
+    ∷ row told_refusal (refusal (number_of BadName) 7) (refusal 10 7) (refusal 9 7) (refusal 7 10)  -- Reason::at
     ∷ []
 
 -- ---- texts, names, descriptors
@@ -208,11 +238,12 @@ pools =
     ∷ row (answer (λ (h : Header). h.minor ∷ h.major ∷ h.count ∷ [])) (header_of (at_major 52 (0 ∷ 3 ∷ []))) (accept (record { minor = 0; major = 52; count = 3 })) (accept (record { minor = 52; major = 0; count = 3 })) (refuse 3 0)  -- header_of
     ∷ row (answer (λ (e : Slot). e.cell ∷ e.next ∷ bit e.wide ∷ [])) (slot_at file_e 52 3 1 false 10) (accept (record { cell = 10; next = 13; wide = false })) (accept (record { cell = 1; next = 13; wide = false })) (refuse 5 1)  -- slot_at
     ∷ row (tabled head) (entries_of file_f 2) (accept (record { slots = 2; minor = 0; major = 52; next = 13 }), 0 ∷ 10 ∷ []) (refuse 6 1, 0 ∷ 0 ∷ []) (accept (record { slots = 2; minor = 0; major = 52; next = 13 }), 0 ∷ 0 ∷ [])  -- read_entries
-    ∷ row num (slots pool_e) 3 2 4  -- slots_of
-    ∷ row num (cell pool_e 2) 13 10 2  -- cell_of
-    ∷ row num (tag_of pool_e 0) 0 0xCA 7  -- tag_of
-    ∷ row num (field pool_e 1 1) 2 512 1  -- field_of
-    ∷ row nums (bytes_of pool_e 2) (0x41 ∷ []) [] (0 ∷ 1 ∷ 0x41 ∷ [])  -- bytes_of
+    ∷ row lent_pool (of_head (record { slots = 3; minor = 1; major = 52; next = 17 })) (lent_as 52 3) (lent_as 1 3) (lent_as 52 17)  -- Pool::of
+    ∷ row num (slots pool_e) 3 2 4  -- Pool::count
+    ∷ row num (cell pool_e 2) 13 10 2  -- Pool::cell
+    ∷ row num (tag_of pool_e 0) 0 0xCA 7  -- Pool::tag
+    ∷ row num (field pool_e 1 1) 2 512 1  -- Pool::field
+    ∷ row nums (bytes_of pool_e 2) (0x41 ∷ []) [] (0 ∷ 1 ∷ 0x41 ∷ [])  -- Pool::bytes
     ∷ row check (of_kind pool_e 9 (kind.set_of (kind.class ∷ [])) 2) (refuse 8 9) fine (refuse 8 2)  -- check_kind
     ∷ row check (text_at pool_e 9 1) (refuse 8 9) (refuse 9 9) fine  -- check_utf8
     ∷ row check (text_of unqualified 10 pool_e 9 2) fine (refuse 10 9) (refuse 9 9)  -- check_text
@@ -270,14 +301,16 @@ list_of n room = (mapped length (dependants file_o table_o n room), after 0 (λ 
 abbrev pub asked_of_tables : List Row
 asked_of_tables =
     row (answer head) (mapped head_of (handed file_e (0 ∷ 10 ∷ 13 ∷ 0 ∷ 1 ∷ []))) (refuse 12 4) (refuse 12 3) (accept (record { slots = 3; minor = 0; major = 52; next = 17 }))  -- check_handed
+    ∷ row (answer lent_pool) (mapped (lent (bor file_e) (bor longer_e)) (handed file_e longer_e)) (accept (longer_as 3)) (accept (longer_as 4)) (refuse 12 3)  -- pool_of: as many slots as the table has cells
     ∷ row check (require (eqb 14 13) 12 2) (refuse 12 2) fine (refuse 12 3)  -- same_cell
     ∷ row check (asked pool_e (kind.set_of (kind.class ∷ [])) 3) (refuse 7 3) (refuse 8 3) fine  -- check_asked
-    ∷ row whole_number (twos 32 0xFFFFFFFF) (negsuc 0) (pos 0xFFFFFFFF) (negsuc 1)  -- to_i32
-    ∷ row whole_number (twos 64 0x8000000000000000) (negsuc 0x7FFFFFFFFFFFFFFF) (pos 0x8000000000000000) (negsuc 0)  -- to_i64
+    ∷ row whole_number (twos 32 0xFFFFFFFF) (negsuc 0) (pos 0xFFFFFFFF) (negsuc 1)  -- number_at of an Integer
+    ∷ row whole_number (twos 64 0x8000000000000000) (negsuc 0x7FFFFFFFFFFFFFFF) (pos 0x8000000000000000) (negsuc 0)  -- number_at of a Long
     ∷ row literal (single 0x7F800001) (float_nan 0x7F800001) (float_nan 0x7FC00000) (float (of_bits binary32 0x7FC00000))  -- float_of
     ∷ row literal (twofold 0x7FF0000000000000) (double (of_bits binary64 0x7FF0000000000000)) (double_nan 0x7FF0000000000000) (long (pos 0x7FF0000000000000))  -- double_of
     ∷ row literal (number_at file_c 3 11) (integer (negsuc 0)) (integer (pos 0xFFFFFFFF)) (float_nan 0xFFFFFFFF)  -- number_at
     ∷ row num (bits_in (accept (integer (negsuc 0)))) 0xFFFFFFFF 0 1  -- bits_of
+    ∷ row num (bits_of (integer (negsuc 0))) 0xFFFFFFFF 0xFFFFFFFFFFFFFFFF 1  -- Literal::bits: a sign that is carried on
     ∷ row (answer literal) (lookup file_c (0 ∷ 10 ∷ []) (literal_at 1)) (accept (integer (negsuc 0))) (accept (integer (negsuc 2147483647))) (refuse 8 1)  -- literal: D's answer; a refusal
     ∷ row (answer (λ b. num (bit b))) (lookup file_m table_e (word_at 2)) (accept false) (accept true) (refuse 9 2)  -- text_or_raw
     ∷ row span (span_in (lookup file_e table_e (span_at 2))) (record { from = 16; to = 17 }) (record { from = 0; to = 0 }) (record { from = 14; to = 17 })  -- utf8_span

@@ -10,7 +10,7 @@ use borrow.Author.Tests.{ltb-true}
 use Rattle.reads.specs.Answer.{Answer, accept, refuse, mapped}
 use Rattle.reads.specs.Bytes.{u2}
 use Rattle.reads.specs.Promise.{Accepted}
-use Rattle.reads.specs.Tables.{padded}
+use Rattle.reads.specs.Tables.{padded, after}
 use Rattle.reads.proofs.Answers.{first, held, same, never}
 use Rattle.reads.proofs.Leaves.{u2_in}
 use Rattle.reads.proofs.Tables.{padded_none, padded_set}
@@ -53,10 +53,10 @@ module _ (p : Pool) (room start : ℕ) where
   accepted : (m : Many ℕ ℕ) (list : List ℕ) → accept m ≡ interfaces_at p room start → list ≡ padded 0 room m.list → Leaves (accept (listed_of m)) list
   accepted m list e t = rw (← e) (refl, λ q h. rw (same h) t)
 
-  -- the number itself is cut off
-  pub no_count : (nr place : ℕ) (list : List ℕ) → refuse nr place ≡ u2 p.file start → Leaves (refuse nr place) list
+  -- the number itself is cut off: the list is zero still
+  pub cut_off : (nr place : ℕ) (list : List ℕ) → refuse nr place ≡ u2 p.file start → list ≡ replicate room 0 → (refuse nr place ≡ mapped listed_of (interfaces_at p room start)) × (list ≡ after 0 (λ m. m.list) room (interfaces_at p room start))
   unfolding interfaces_at
-  no_count nr place list e = refused nr place list (rw (← e) refl)
+  cut_off nr place list e z = rw (← e) (refl, z)
 
   module _ (count : ℕ) where
     -- the list holds `cells`, the slots below n, and from there the rest goes on as from the start

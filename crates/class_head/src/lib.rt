@@ -2,7 +2,8 @@
 #![tactic(auto)]
 
 ghost use Rattle.std.specs.Prelude.{◌≡◌, length, replicate};
-ghost use Rattle.reads.specs.Answer.{mapped};
+ghost use Rattle.reads.specs.Answer.{accept, mapped};
+ghost use Rattle.reads.specs.Bytes.{u2};
 ghost use Rattle.reads.specs.Promise.{Is, answered, Accepted};
 ghost use Rattle.reads.specs.Tables.{padded, after};
 ghost use Rattle.slot.specs.Shown.{shown};
@@ -82,14 +83,14 @@ fn interface_at(p: &Pool, room: usize, n: usize, at: usize) -> Answer<u16>
     Ok(m)
 }
 
-// The interfaces, into a list that is zero; after a refusal some of it may be written.
+// The interfaces, `count` of them, into a list that is zero; after a refusal some of it may be written.
 #[tactic(auto, using(reads::proofs::Leaves::u2_in, crate::proofs::Listing::interface_in, crate::proofs::Listing::begin, crate::proofs::Listing::turn))]
-fn fill(p: &Pool, start: usize, list: &mut [u16]) -> Answer<Listed>
-    requires { list.old ≡ replicate (length list.old) 0 }
+fn fill(p: &Pool, start: usize, count: u16, list: &mut [u16]) -> Answer<Listed>
+    requires zero { list.old ≡ replicate (length list.old) 0 }
+    requires counted { accept count ≡ u2 p.now.file.now start }
     ensures is { Is answered (mapped listed_of (interfaces_at (shown p.now) (length list.old) start)) result }
     ensures list_after { Accepted (interfaces_at (shown p.now) (length list.old) start) (λ m. padded 0 (length list.old) m.list) list.new }
 {
-    let count = reads::read_u2(p.file, start)?;
     let mut at = start + 2;
     for n in 0..count as usize {
         list[n] = interface_at(p, list.len(), n, at)?;
@@ -98,13 +99,15 @@ fn fill(p: &Pool, start: usize, list: &mut [u16]) -> Answer<Listed>
     Ok(Listed { count, next: at })
 }
 
-// The interfaces, from their number at a byte of the file on, into a lent list; after a refusal the list is zero.
+// The interfaces, from their number at a byte of the file on, into a lent list; after a refusal the list is zero. Where the number itself
+// is cut off nothing was written, and a long list is not made zero twice.
 pub fn read_interfaces(p: &Pool, start: usize, list: &mut [u16]) -> Answer<Listed>
     ensures answer { Is answered (mapped listed_of (interfaces_at (shown p.now) (length list.old) start)) result }
     ensures list { list.new ≡ after 0 (λ m. m.list) (length list.old) (interfaces_at (shown p.now) (length list.old) start) }
 {
     reads::clear(list);
-    let answer = fill(p, start, list);
+    let count = reads::read_u2(p.file, start)?;
+    let answer = fill(p, start, count, list);
     if answer.is_err() {
         reads::clear(list);
     }

@@ -1,15 +1,19 @@
 -- Demand 1 for the calls on bytes, numbers and names, from their contracts: a line for each. Assumes nothing.
-use Prim.Native.Nat.{ℕ, ◌+◌, ◌*◌, ◌/◌, min}
+use Prim.Native.Nat.{ℕ, ◌/◌}
 use mathlib.Core.Bool.{Bool, false, ◌&&◌}
 use mathlib.Core.List.{List}
 use lib.ListN.{length, take, drop, get_or, replicate}
 use denote.Ref.{Bor, MutBor}
 use Rattle.reads.specs.Promise.{answered, refusal, number_of}
 use denote.RattleType.{RattleType}
+use denote.Builtin.{u8, u16, u32}
 use denote.Param.Laws.{Laws, IsCopy}
 use mir.Syntax.{Dict}
 use Rattle.std.specs.declared.clone.Clone.{Ghosts as Clone}
 use Rattle.reads.specs.declared.Zero.{Ghosts as Zero}
+use Rattle.reads.specs.contracts.U8Zero.TheImpl.{ghosts as zero_u8, dict as dict_u8}
+use Rattle.reads.specs.contracts.U16Zero.TheImpl.{ghosts as zero_u16, dict as dict_u16}
+use Rattle.reads.specs.contracts.U32Zero.TheImpl.{ghosts as zero_u32, dict as dict_u32}
 use Rattle.reads.specs.Bytes.{num1, num2, u1, u2, u4, skipped}
 use Rattle.reads.specs.declared.Reason.{Reason}
 use Rattle.reads.proofs.Reason.at.Reads as at_reads
@@ -91,6 +95,17 @@ module _ (s : Bor (List ℕ)) (at : ℕ) where
 module _ (T : RattleType) (L : Laws T) (C : IsCopy T) (Z : Zero T.Denot) (zs : Dict) (K : Clone T.Denot) (ks : Dict) where
   pub reads-clear : (κs : _) (table : MutBor (List T.Denot)) → Leaves (clear_reads.Learnt T L C Z zs K ks κs (table, tt)) (λ e. e.0.now) (replicate (length table.now) Z.ZERO)
   reads-clear κs table = gives (λ z e h. h)
+
+-- of bytes, of slots and of cells: zeros
+module _ (K : Clone ℕ) (ks : Dict) (κs : _) (table : MutBor (List ℕ)) where
+  pub reads-clear-u8 : (L : Laws u8) (C : IsCopy u8) → Leaves (clear_reads.Learnt u8 L C zero_u8 dict_u8 K ks κs (table, tt)) (λ e. e.0.now) (replicate (length table.now) 0)
+  reads-clear-u8 L C = reads-clear u8 L C zero_u8 dict_u8 K ks κs table
+
+  pub reads-clear-u16 : (L : Laws u16) (C : IsCopy u16) → Leaves (clear_reads.Learnt u16 L C zero_u16 dict_u16 K ks κs (table, tt)) (λ e. e.0.now) (replicate (length table.now) 0)
+  reads-clear-u16 L C = reads-clear u16 L C zero_u16 dict_u16 K ks κs table
+
+  pub reads-clear-u32 : (L : Laws u32) (C : IsCopy u32) → Leaves (clear_reads.Learnt u32 L C zero_u32 dict_u32 K ks κs (table, tt)) (λ e. e.0.now) (replicate (length table.now) 0)
+  reads-clear-u32 L C = reads-clear u32 L C zero_u32 dict_u32 K ks κs table
 
 module _ (table : MutBor (List ℕ)) where
   pub cells-cells_out : (κs : _) (cells : Bor (List ℕ)) → Leaves (cells_out_reads.Learnt κs (cells, (table, tt))) (λ e. e.1.0.now) (as_bytes (length table.now) (take (length table.now / 4) cells.now))

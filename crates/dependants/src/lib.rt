@@ -88,7 +88,7 @@ fn list_at(p: &Pool, n: usize, list: &mut [u16]) -> Answer<usize>
 }
 
 // The dependants of slot n of a handed table, into the lent list; after a refusal some of the list may be written.
-fn list_of<'a>(file: &'a [u8], table: &'a [u32], n: usize, list: &mut [u16]) -> Answer<usize>
+fn list_of(file: &[u8], table: &[u32], n: usize, list: &mut [u16]) -> Answer<usize>
     ensures is { Is answered (mapped length (dependants_of file.now table.now n (length list.old))) result }
     ensures list_after { Accepted (dependants_of file.now table.now n (length list.old)) (λ xs. padded 0 (length list.old) xs) list.new }
 {
@@ -98,12 +98,7 @@ fn list_of<'a>(file: &'a [u8], table: &'a [u32], n: usize, list: &mut [u16]) -> 
 
 // Every slot that reaches the slot asked for, each once and rising, into the lent list; cells past them are zero, and all are after a
 // refusal.
-pub fn dependants<'a>(
-    file: &'a [u8],
-    table: &'a [u32],
-    slot: u32,
-    list: &mut [u16],
-) -> Answer<usize>
+pub fn dependants(file: &[u8], table: &[u32], slot: u32, list: &mut [u16]) -> Answer<usize>
     ensures answer { Is answered (mapped length (dependants_of file.now table.now slot (length list.old))) result }
     ensures list { list.new ≡ after 0 (λ xs. xs) (length list.old) (dependants_of file.now table.now slot (length list.old)) }
 {

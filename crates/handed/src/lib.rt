@@ -123,7 +123,7 @@ pub fn check_handed(file: &[u8], table: &[u32]) -> Answer<Head>
 }
 
 // The pool of a file whose table is handed in, as checks and lookups see it.
-pub fn pool_of<'a>(file: &'a [u8], table: &'a [u32]) -> Answer<Pool<'a>>
+pub fn pool_of<'f, 't>(file: &'f [u8], table: &'t [u32]) -> Answer<Pool<'f, 't>>
     ensures { Is answered (mapped (lent file.entry table.entry) (handed file.now table.now)) result }
 {
     let h = check_handed(file, table)?;

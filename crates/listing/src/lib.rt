@@ -145,9 +145,9 @@ fn list_all(p: &Pool, tags: &mut [u8], firsts: &mut [u32], seconds: &mut [u32]) 
 // String, a MethodType, a Module and a Package name; the two slots of a member reference and of a NameAndType; a handle's kind and slot;
 // of a Dynamic and an InvokeDynamic the index and the NameAndType's slot. Cells past the slots are zero, and all are after a refusal. Three
 // slices, since C lends each by itself.
-pub fn list_slots<'a>(
-    file: &'a [u8],
-    table: &'a [u32],
+pub fn list_slots(
+    file: &[u8],
+    table: &[u32],
     tags: &mut [u8],
     firsts: &mut [u32],
     seconds: &mut [u32],

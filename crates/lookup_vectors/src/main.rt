@@ -87,7 +87,7 @@ impl Found for Literal {
             Literal::Text(_) => ("string", false),
         };
         let sign = if is_below { " below zero" } else { "" };
-        write!(out, "{what} {}{sign}", self.bits())
+        write!(out, "{what} {}{sign}", literal::bits_of(Ok(*self)))
     }
 }
 

@@ -156,7 +156,7 @@ impl Values for Literal {
     fn values(self) -> Reply {
         Reply {
             one: tag_for(self),
-            bits: self.bits(),
+            bits: literal::bits_of(Ok(self)),
             ..Reply::default()
         }
     }
@@ -240,6 +240,21 @@ fn ask_in(question: Question, file: &[u8], table: &[u8], n: u32, cells: &mut [u3
     }
 }
 
+// The same, of the cells only as many as are used.
+fn ask_with(
+    question: Question,
+    file: &[u8],
+    table: &[u8],
+    n: u32,
+    cells: &mut [u32],
+    need: usize,
+) -> Reply
+    requires { (need ≡ enough_for file.now) × (need ≤ length cells.old) }
+    ensures { result ≡ on_pool (reply_at question n) (handed_pool file.now (cells_in table.now)) }
+{
+    ask_in(question, file, table, n, &mut cells[..need])
+}
+
 // The reply with N cells of its own.
 fn ask_sized<const N: usize>(question: Question, file: &[u8], table: &[u8], n: u32) -> Reply
     requires enough { enough_for file.now ≤ N }
@@ -248,7 +263,7 @@ fn ask_sized<const N: usize>(question: Question, file: &[u8], table: &[u8], n: u
 {
     let need = byte_tables::cells_for(file);
     let mut cells = [0u32; N];
-    ask_in(question, file, table, n, &mut cells[..need])
+    ask_with(question, file, table, n, &mut cells, need)
 }
 
 // The reply to a question about slot n of a handed table that is bytes. The numbers of cells double: the compiler takes only the first

@@ -5,3 +5,4 @@ pub mod Tables
 pub mod Columns
 pub mod Placed
 pub mod Clauses
+pub mod Zeros

@@ -1,4 +1,4 @@
--- The code's own notion: the pool that the code's struct shows. Assumes nothing.
+-- The pool that a struct of the code shows, by its four fields. Assumes nothing.
 use Rattle.pool.specs.Pool.{Pool, seen}
 use Rattle.slot.specs.declared.Pool.{Pool as Lent}
 

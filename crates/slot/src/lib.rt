@@ -23,12 +23,13 @@ pub enum Grammar {
     MethodDescriptor,
 }
 
-// A pool as checks and lookups see it: the file, its major version, a table, and how many of its first cells are slots.
+// A pool as checks and lookups see it: the file, its major version, a table, and how many of its first cells are slots. The file has a
+// lifetime of its own, so that what is handed out of it may outlive the table.
 #[derive(Clone, Copy)]
-pub struct Pool<'a> {
-    pub file: &'a [u8],
+pub struct Pool<'f, 't> {
+    pub file: &'f [u8],
     pub major: u16,
-    pub table: &'a [u32],
+    pub table: &'t [u32],
     pub slots: usize,
 }
 
@@ -87,9 +88,9 @@ fn judge_class_name(t: &[u8], place: usize) -> Answer<()>
     Err(Reason::BadName.at(place))
 }
 
-impl<'a> Pool<'a> {
+impl<'f, 't> Pool<'f, 't> {
     // The pool of a head that was read, with the table that its entries were read into.
-    pub fn of(file: &'a [u8], head: &Head, table: &'a [u32]) -> Pool<'a>
+    pub fn of(file: &'f [u8], head: &Head, table: &'t [u32]) -> Pool<'f, 't>
         ensures { result ≡ record { file = file.entry; major = head.now.major; table = table.entry; slots = head.now.slots } }
     {
         Pool {
@@ -150,7 +151,7 @@ impl<'a> Pool<'a> {
 
     // The bytes of the Utf8 entry in slot m, a part of the file.
     #[tactic(auto, unfolding(crate::specs::Slots::bytes_of))]
-    pub fn bytes(&self, m: usize) -> &'a [u8]
+    pub fn bytes(&self, m: usize) -> &'f [u8]
         ensures { result.now ≡ bytes_of (shown self.now) m }
     {
         let c = self.cell(m);
