@@ -1,5 +1,5 @@
 -- Worked cases: for the contract of each public call an answer and two that it rules out, a row each. Assumes nothing.
-use Rattle.std.specs.Prelude.{ℕ, ◌≡◌, List, [], ◌∷◌, ◌++◌, Bool, true, false, cond, not, ◌&&◌, Option, Some, None, ℤ, pos, negsuc, length, take, drop, replicate, eqb}
+use Rattle.std.specs.Prelude.{ℕ, ◌+◌, ◌*◌, ◌≡◌, List, [], ◌∷◌, ◌++◌, Bool, true, false, cond, not, ◌&&◌, Option, Some, None, ℤ, pos, negsuc, length, take, drop, replicate, eqb}
 use Rattle.std.specs.Float.{binary32, binary64}
 use Rattle.std.specs.Float.Ieee.{of_bits}
 use Rattle.reads.specs.Answer.{Answer, Check, fine, accept, refuse, mapped, require}
@@ -171,6 +171,8 @@ reading =
     ∷ row (answer num) (skipped (7 ∷ []) 1 0) (accept 1) (refuse 2 1) (accept 0)  -- skip
     ∷ row num (num1 (5 ∷ []) 1) 0 5 1  -- byte_at
     ∷ row num (num2 (1 ∷ 2 ∷ []) 1) 512 258 2  -- pair_at
+    ∷ row num (1 * 65536 + 2) 65538 131073 3  -- two halves of two bytes, as num4 joins them
+    ∷ row num (1 * 4294967296 + 2) 4294967298 8589934593 3  -- two halves of four bytes, as num8 joins them
     ∷ row num (num4 (0 ∷ 1 ∷ 0 ∷ 2 ∷ []) 0) 65538 131073 3  -- quad_at
     ∷ row num (num8 (0 ∷ 0 ∷ 0 ∷ 1 ∷ 0 ∷ 0 ∷ 0 ∷ 2 ∷ []) 0) 4294967298 8589934593 3  -- oct_at
     ∷ row nums (take 1 (drop 1 (1 ∷ 2 ∷ 3 ∷ []))) (2 ∷ []) (1 ∷ []) (2 ∷ 3 ∷ [])  -- part

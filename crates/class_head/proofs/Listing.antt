@@ -53,7 +53,12 @@ module _ (p : Pool) (room start : ℕ) where
   accepted : (m : Many ℕ ℕ) (list : List ℕ) → accept m ≡ interfaces_at p room start → list ≡ padded 0 room m.list → Leaves (accept (listed_of m)) list
   accepted m list e t = rw (← e) (refl, λ q h. rw (same h) t)
 
-  -- the number itself is cut off: the list is zero still
+  -- the number itself is cut off
+  pub no_count : (nr place : ℕ) (list : List ℕ) → refuse nr place ≡ u2 p.file start → Leaves (refuse nr place) list
+  unfolding interfaces_at
+  no_count nr place list e = refused nr place list (rw (← e) refl)
+
+  -- .. and the list is zero still
   pub cut_off : (nr place : ℕ) (list : List ℕ) → refuse nr place ≡ u2 p.file start → list ≡ replicate room 0 → (refuse nr place ≡ mapped listed_of (interfaces_at p room start)) × (list ≡ after 0 (λ m. m.list) room (interfaces_at p room start))
   unfolding interfaces_at
   cut_off nr place list e z = rw (← e) (refl, z)
